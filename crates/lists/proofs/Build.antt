@@ -1,0 +1,34 @@
+-- Laws of a list built in order. Assumes nothing.
+use Prim.Native.Nat.{ℕ, zero, suc, _+_, _-_, _<_, _≤_}
+use mathlib.Core.Path.{_≡_, refl, sym, ap, _∙_}
+use mathlib.Core.List.{List, [], _∷_, _++_}
+use native.Mathlib.Nat.{add-zero, add-suc}
+use native.Mathlib.Omega.{arith}
+use lib.ListN.{length, getD, take, length-append, List·getD-append}
+use lib.Seq.{getD-at, take-append-le}
+use Rattle.lists.specs.Build.{build}
+
+module _ {A : Type 0} (f : ℕ → List A → A) where
+  pub build-length : (n : ℕ) → length (build f n) ≡ n
+  unfolding build
+  build-length zero = refl
+  build-length (suc n) = simp (length-append, build-length n) (omega arith)
+
+  build-more : (d : A) (k n i : ℕ) → i < n → getD (build f (n + k)) i d ≡ getD (build f n) i d
+  unfolding build
+  build-more d zero n i h = rw add-zero
+  build-more d (suc k) n i h =
+      let b : i < length (build f (n + k)) = simp (build-length (n + k)) (omega arith) in
+      rw (add-suc, List·getD-append) (build-more d k n i h)
+
+  -- an element stays as the list grows
+  pub build-stay : (d : A) (m n i : ℕ) → i < n → n ≤ m → getD (build f m) i d ≡ getD (build f n) i d
+  build-stay d m n i h l =
+      let e : m ≡ n + (m - n) = omega arith in
+      ap (λ (z : ℕ). getD (build f z) i d) e ∙ build-more d (m - n) n i h
+
+  -- the element at a place, by those before it
+  pub build-at : (d : A) (n i : ℕ) → i < n → getD (build f n) i d ≡ f i (build f i)
+  unfolding build
+  build-at d n i h =
+      build-stay d n (suc i) i (omega arith) h ∙ getD-at (build f i) (f i (build f i)) [] d i (build-length i)

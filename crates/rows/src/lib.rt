@@ -1,0 +1,252 @@
+// Node rows: the row reader, the accessors, the decoder and the rules of a good encoding.
+ghost use mathlib.Core.Path.{_≡_};
+ghost use mathlib.Core.Bool.{not};
+ghost use Prim.Native.Nat.{_<_, _≤_, _+_, _*_, _/_};
+ghost use lib.Dec.{ltb};
+ghost use lib.ListN.{length, getD};
+ghost use Rattle.rows.specs.Row.{graphNumber, rowCount, ragged, rowAt};
+ghost use Rattle.rows.specs.Node.{nodeFrom, nodeOf, rowEq};
+ghost use Rattle.rows.specs.Encoding.{tagCount, fieldCount, fieldGood, rowGood, badRow, badBit};
+
+// Which graph a list of words holds.
+pub enum Graph {
+    Source,
+    Target,
+}
+
+// What a row says, by shape; a shape of several tags keeps its tag first.
+pub enum Node {
+    // width
+    Var(u64),
+    // start in the bits, width
+    Const(u64, u64),
+    // tag, operand
+    Un(u64, u64),
+    // tag, operands
+    Bin(u64, u64, u64),
+    // high bit, low bit, operand
+    Extract(u64, u64, u64),
+    // tag, operand, added bits
+    Extend(u64, u64, u64),
+    // condition, then, else
+    Ite(u64, u64, u64),
+    // array, index row, start, pair count
+    Select(u64, u64, u64, u64),
+    // function, width, start, argument count
+    Call(u64, u64, u64, u64),
+    Unknown,
+}
+
+pub fn graph_number(graph: Graph) -> u64
+    ensures number { λ r. ⌜ r ≡ graphNumber graph ⌝ }
+{
+    match graph {
+        Graph::Source => 1,
+        Graph::Target => 2,
+    }
+}
+
+pub fn row_count(graph: Graph, g: &[u64]) -> usize
+    ensures count { λ r. ⌜ r ≡ rowCount graph (now (g .entry)) ⌝ }
+{
+    match graph {
+        Graph::Source => g.len() / 5,
+        Graph::Target => g.len() / 4,
+    }
+}
+
+pub fn is_ragged(graph: Graph, g: &[u64]) -> bool
+    ensures test { λ r. ⌜ r ≡ ragged graph (now (g .entry)) ⌝ }
+{
+    match graph {
+        Graph::Source => g.len() % 5 != 0,
+        Graph::Target => g.len() % 4 != 0,
+    }
+}
+
+fn source_row(g: &[u64], i: usize) -> [u64; 5]
+    requires { ⌜ i < length (now g) / 5 ⌝ }
+    ensures row { λ r. ⌜ r ≡ rowAt Graph.Source (now (g .entry)) i ⌝ }
+{
+    let at = i * 5;
+    [g[at], g[at + 1], g[at + 2], g[at + 3], g[at + 4]]
+}
+
+fn target_row(g: &[u64], i: usize) -> [u64; 5]
+    requires { ⌜ i < length (now g) / 4 ⌝ }
+    ensures row { λ r. ⌜ r ≡ rowAt Graph.Target (now (g .entry)) i ⌝ }
+{
+    let at = i * 4;
+    [g[at], g[at + 1], g[at + 2], g[at + 3], 0]
+}
+
+// Row i as its five words.
+pub fn row(graph: Graph, g: &[u64], i: usize) -> [u64; 5]
+    requires { ⌜ i < rowCount graph (now g) ⌝ }
+    ensures row { λ r. ⌜ r ≡ rowAt graph (now (g .entry)) i ⌝ }
+{
+    match graph {
+        Graph::Source => source_row(g, i),
+        Graph::Target => target_row(g, i),
+    }
+}
+
+pub fn node_tag(r: [u64; 5]) -> u64
+    ensures word { λ t. ⌜ t ≡ getD r 0 0 ⌝ }
+{
+    r[0]
+}
+
+pub fn node_f1(r: [u64; 5]) -> u64
+    ensures word { λ t. ⌜ t ≡ getD r 1 0 ⌝ }
+{
+    r[1]
+}
+
+pub fn node_f2(r: [u64; 5]) -> u64
+    ensures word { λ t. ⌜ t ≡ getD r 2 0 ⌝ }
+{
+    r[2]
+}
+
+pub fn node_f3(r: [u64; 5]) -> u64
+    ensures word { λ t. ⌜ t ≡ getD r 3 0 ⌝ }
+{
+    r[3]
+}
+
+pub fn node_f4(r: [u64; 5]) -> u64
+    ensures word { λ t. ⌜ t ≡ getD r 4 0 ⌝ }
+{
+    r[4]
+}
+
+fn node_from(t: u64, a: u64, b: u64, c: u64, d: u64) -> Node
+    ensures node { λ r. ⌜ r ≡ nodeFrom t a b c d ⌝ }
+{
+    match t {
+        0 => Node::Var(a),
+        1 => Node::Const(a, b),
+        14 => Node::Extract(a, b, c),
+        16 => Node::Extend(t, a, b),
+        17 => Node::Extend(t, a, b),
+        18 => Node::Ite(a, b, c),
+        29 => Node::Un(t, a),
+        32 => Node::Un(t, a),
+        33 => Node::Un(t, a),
+        37 => Node::Select(a, b, c, d),
+        38 => Node::Call(a, b, c, d),
+        _ => {
+            if t < 37 {
+                Node::Bin(t, a, b)
+            } else {
+                Node::Unknown
+            }
+        }
+    }
+}
+
+// The row's five words as a node.
+pub fn decode(r: [u64; 5]) -> Node
+    ensures node { λ n. ⌜ n ≡ nodeOf r ⌝ }
+{
+    node_from(r[0], r[1], r[2], r[3], r[4])
+}
+
+// The same tag and the same fields.
+pub fn node_eq(r: [u64; 5], s: [u64; 5]) -> bool
+    ensures same { λ b. ⌜ b ≡ rowEq r s ⌝ }
+{
+    if r[0] != s[0] {
+        return false;
+    }
+    if r[1] != s[1] {
+        return false;
+    }
+    if r[2] != s[2] {
+        return false;
+    }
+    if r[3] != s[3] {
+        return false;
+    }
+    r[4] == s[4]
+}
+
+fn tag_count(graph: Graph) -> u64
+    ensures count { λ r. ⌜ r ≡ tagCount graph ⌝ }
+{
+    match graph {
+        Graph::Source => 39,
+        Graph::Target => 37,
+    }
+}
+
+fn field_count(t: u64) -> u64
+    ensures count { λ r. ⌜ r ≡ fieldCount t ⌝ }
+{
+    if 37 <= t {
+        return 4;
+    }
+    match t {
+        0 => 1,
+        29 => 1,
+        32 => 1,
+        33 => 1,
+        14 => 3,
+        18 => 3,
+        _ => 2,
+    }
+}
+
+fn field_good(n: u64, k: u64, field: u64) -> bool
+    ensures test { λ r. ⌜ r ≡ fieldGood n k field ⌝ }
+{
+    if n < k { field == 0 } else { true }
+}
+
+// A known tag, and 0 in each field that it doesn't use.
+pub fn row_good(graph: Graph, r: [u64; 5]) -> bool
+    ensures test { λ b. ⌜ b ≡ rowGood graph r ⌝ }
+{
+    let t = r[0];
+    if tag_count(graph) <= t {
+        return false;
+    }
+    let n = field_count(t);
+    if !field_good(n, 2, r[2]) {
+        return false;
+    }
+    if !field_good(n, 3, r[3]) {
+        return false;
+    }
+    field_good(n, 4, r[4])
+}
+
+// The first row that is not good, or the number of rows.
+pub fn bad_row(graph: Graph, g: &[u64]) -> usize
+    ensures row { λ r. ⌜ r ≡ badRow graph (now (g .entry)) ⌝ }
+{
+    let n = row_count(graph, g);
+    let mut i = 0;
+    while i < n {
+        if !row_good(graph, row(graph, g, i)) {
+            return i;
+        }
+        i += 1;
+    }
+    i
+}
+
+// The first byte above 1, or the number of bytes.
+pub fn bad_bit(bits: &[u8]) -> usize
+    ensures position { λ r. ⌜ r ≡ badBit (now (bits .entry)) ⌝ }
+{
+    let mut i = 0;
+    while i < bits.len() {
+        if 1 < bits[i] {
+            return i;
+        }
+        i += 1;
+    }
+    i
+}
