@@ -1,0 +1,34 @@
+-- Answers as numbers, and what each leaves in a lent list (01, 'Operations and what they refuse'). Assumes nothing.
+use Prim.Native.Nat.{ℕ, _-_}
+use mathlib.Core.Bool.{Bool, true, false, cond}
+use mathlib.Core.List.{List, _++_}
+use lib.ListN.{length, replicate}
+use Rattle.answers.specs.declared.Answer.{Answer}
+use Rattle.answers.specs.declared.Answer.the-variants.{Accepted, Ext, Core, RowCount, BadRow, BadBit, WorkShort, BadRoot}
+use Rattle.answers.specs.declared.Words.{Words}
+
+abbrev pub words : ℕ → ℕ → ℕ → Words
+words n p d = record { number = n; place = p; detail = d }
+
+-- "An answer is a number with place and detail; acceptance is number 0, and a place or detail not named is 0"
+abbrev pub wordsOf : Answer → Words
+wordsOf Accepted = words 0 0 0
+wordsOf (Ext row) = words 1 row 0
+wordsOf (Core row) = words 2 row 0
+wordsOf (RowCount graph) = words 15 graph 0
+wordsOf (BadRow row graph) = words 16 row graph
+wordsOf (BadBit position graph) = words 17 position graph
+wordsOf (WorkShort list) = words 18 list 0
+wordsOf (BadRoot position) = words 19 position 0
+
+-- "15 and 18 write nothing; any other refusal zeroes all .. lists. Acceptance leaves [the list's contents], zeros after the last row":
+-- what a lent list holds afterwards, by the answer, what it held and what acceptance writes
+abbrev pub lent : Answer → List ℕ → List ℕ → List ℕ
+lent Accepted old new = new ++ replicate (length old - length new) 0
+lent (Ext row) old new = replicate (length old) 0
+lent (Core row) old new = replicate (length old) 0
+lent (RowCount graph) old new = old
+lent (BadRow row graph) old new = replicate (length old) 0
+lent (BadBit position graph) old new = replicate (length old) 0
+lent (WorkShort list) old new = old
+lent (BadRoot position) old new = replicate (length old) 0

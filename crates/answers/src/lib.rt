@@ -1,0 +1,45 @@
+// The answers of the operations, and their numbers.
+ghost use mathlib.Core.Path.{_≡_};
+ghost use Rattle.answers.specs.Answer.{wordsOf};
+
+// What an operation answers: acceptance or the refusal, with the values that it names.
+pub enum Answer {
+    Accepted,
+    // row of the source
+    Ext(u64),
+    // row of the target
+    Core(u64),
+    // graph, 1 source or 2 target
+    RowCount(u64),
+    // row, graph
+    BadRow(u64, u64),
+    // position, graph
+    BadBit(u64, u64),
+    // list, by its place in the order lent
+    WorkShort(u64),
+    // position in the root list
+    BadRoot(u64),
+}
+
+// An answer as three words.
+#[repr(C)]
+pub struct Words {
+    pub number: u64,
+    pub place: u64,
+    pub detail: u64,
+}
+
+pub fn words_of(a: Answer) -> Words
+    ensures words { λ r. ⌜ r ≡ wordsOf a ⌝ }
+{
+    match a {
+        Answer::Accepted => Words { number: 0, place: 0, detail: 0 },
+        Answer::Ext(row) => Words { number: 1, place: row, detail: 0 },
+        Answer::Core(row) => Words { number: 2, place: row, detail: 0 },
+        Answer::RowCount(graph) => Words { number: 15, place: graph, detail: 0 },
+        Answer::BadRow(row, graph) => Words { number: 16, place: row, detail: graph },
+        Answer::BadBit(position, graph) => Words { number: 17, place: position, detail: graph },
+        Answer::WorkShort(list) => Words { number: 18, place: list, detail: 0 },
+        Answer::BadRoot(position) => Words { number: 19, place: position, detail: 0 },
+    }
+}

@@ -1,0 +1,54 @@
+-- The operations Source widths, Target widths and Roots (01, 'Operations and what they refuse'). Assumes nothing.
+use Prim.Native.Nat.{ℕ}
+use mathlib.Core.Bool.{cond}
+use mathlib.Core.List.{List, []}
+use lib.Dec.{ltb}
+use lib.ListN.{length}
+use Rattle.answers.specs.declared.Answer.{Answer}
+use Rattle.answers.specs.declared.Answer.the-variants.{Accepted, Ext, Core, RowCount, BadRow, BadBit, WorkShort, BadRoot}
+use Rattle.answers.specs.Answer.{lent}
+use Rattle.rows.specs.declared.Graph.{Graph}
+use Rattle.rows.specs.declared.Graph.the-variants.{Source, Target}
+use Rattle.rows.specs.Row.{graphNumber, rowCount, ragged}
+use Rattle.rows.specs.Encoding.{badRow, badBit}
+use Rattle.wf.specs.Widths.{illRow, widths, badRoot}
+
+-- an answer and what stands in the lent list afterwards
+pub record Out : Type 0 where
+  pub answer : Answer
+  pub list : List ℕ
+
+abbrev pub out : Answer → List ℕ → Out
+out a l = record { answer = a; list = l }
+
+-- "1 Ext (row); 2 Core (row)"
+abbrev pub illFormed : Graph → ℕ → Answer
+illFormed Source row = Ext row
+illFormed Target row = Core row
+
+-- "15, 18, 16, 17, then 1 or 2": each is looked for everywhere before the next. The list lent has `room` words;
+-- "with Check's places": 18 names the source's list by 1 and the target's by 2
+abbrev pub widthsAnswer : Graph → List ℕ → List ℕ → List ℕ → ℕ → Answer
+widthsAnswer graph g bits side room =
+    let n = rowCount graph g in
+    cond (ragged graph g) (RowCount (graphNumber graph))
+    (cond (ltb room n) (WorkShort (graphNumber graph))
+    (cond (ltb (badRow graph g) n) (BadRow (badRow graph g) (graphNumber graph))
+    (cond (ltb (badBit bits) (length bits)) (BadBit (badBit bits) (graphNumber graph))
+    (cond (ltb (illRow graph (length bits) side g) n) (illFormed graph (illRow graph (length bits) side g)) Accepted))))
+
+-- the whole outcome over the words of the graph, its bits, its side list and the list lent
+abbrev pub graphWidths : Graph → List ℕ → List ℕ → List ℕ → List ℕ → Out
+graphWidths graph g bits side ws =
+    let a = widthsAnswer graph g bits side (length ws) in
+    out a (lent a ws (widths graph (length bits) side g))
+
+abbrev pub sourceWidths : List ℕ → List ℕ → List ℕ → List ℕ → Out
+sourceWidths source bits side ws = graphWidths Source source bits side ws
+
+abbrev pub targetWidths : List ℕ → List ℕ → List ℕ → Out
+targetWidths target bits ws = graphWidths Target target bits [] ws
+
+-- "19 BadRoot (list position) for a row past the widths or a width not 1"
+abbrev pub rootsAnswer : List ℕ → List ℕ → Answer
+rootsAnswer ws roots = cond (ltb (badRoot ws roots) (length roots)) (BadRoot (badRoot ws roots)) Accepted
