@@ -1,12 +1,12 @@
 // Node rows: the row reader, the accessors, the decoder and the rules of a good encoding.
 ghost use mathlib.Core.Path.{_≡_};
-ghost use mathlib.Core.Bool.{not};
-ghost use Prim.Native.Nat.{_<_, _≤_, _+_, _*_, _/_};
+ghost use mathlib.Core.Bool.{not, false};
+ghost use Prim.Native.Nat.{ℕ, _<_, _≤_, _+_, _*_, _/_};
 ghost use lib.Dec.{ltb};
 ghost use lib.ListN.{length, getD};
 ghost use Rattle.rows.specs.Row.{graphNumber, rowCount, ragged, rowAt};
 ghost use Rattle.rows.specs.Node.{nodeFrom, nodeOf, rowEq};
-ghost use Rattle.rows.specs.Encoding.{tagCount, fieldCount, fieldGood, rowGood, badRow, badBit};
+ghost use Rattle.rows.specs.Encoding.{tagCount, fieldCount, fieldGood, rowGood, rowBad, badRow, badBit};
 
 // Which graph a list of words holds.
 pub enum Graph {
@@ -222,14 +222,48 @@ pub fn row_good(graph: Graph, r: [u64; 5]) -> bool
     field_good(n, 4, r[4])
 }
 
-// The first row that is not good, or the number of rows.
-pub fn bad_row(graph: Graph, g: &[u64]) -> usize
+// The first row that is not good, or the number of rows, where those before `from` are good.
+pub fn bad_row(graph: Graph, g: &[u64], from: usize) -> usize
+    requires { ⌜ from ≤ rowCount graph (now g) ⌝ }
+    requires { ⌜ ((j : ℕ) → j < from → rowBad graph (now g) j ≡ false) ⌝ }
     ensures row { λ r. ⌜ r ≡ badRow graph (now (g .entry)) ⌝ }
 {
     let n = row_count(graph, g);
-    let mut i = 0;
+    let mut i = from;
     while i < n {
         if !row_good(graph, row(graph, g, i)) {
+            return i;
+        }
+        i += 1;
+    }
+    i
+}
+
+// The largest byte, 0 where there is none: one pass without a branch.
+fn largest(bits: &[u8]) -> u8
+    ensures most { λ r. ⌜ ((j : ℕ) → j < length (now (bits .entry)) → getD (now (bits .entry)) j 0 ≤ r) ⌝ }
+{
+    let mut most = 0;
+    let mut i = 0;
+    while i < bits.len() {
+        most = larger(most, bits[i]);
+        i += 1;
+    }
+    most
+}
+
+fn larger(a: u8, b: u8) -> u8
+    ensures most { λ r. ⌜ (a ≤ r) × (b ≤ r) ⌝ }
+{
+    if a < b { b } else { a }
+}
+
+fn first_bad_bit(bits: &[u8]) -> usize
+    ensures position { λ r. ⌜ r ≡ badBit (now (bits .entry)) ⌝ }
+{
+    let mut i = 0;
+    while i < bits.len() {
+        if 1 < bits[i] {
             return i;
         }
         i += 1;
@@ -241,12 +275,8 @@ pub fn bad_row(graph: Graph, g: &[u64]) -> usize
 pub fn bad_bit(bits: &[u8]) -> usize
     ensures position { λ r. ⌜ r ≡ badBit (now (bits .entry)) ⌝ }
 {
-    let mut i = 0;
-    while i < bits.len() {
-        if 1 < bits[i] {
-            return i;
-        }
-        i += 1;
+    if largest(bits) <= 1 {
+        return bits.len();
     }
-    i
+    first_bad_bit(bits)
 }

@@ -8,7 +8,7 @@ ghost use Rattle.lists.specs.First.{none};
 ghost use Rattle.rows.specs.Row.{rowCount, rowAt};
 ghost use Rattle.rows.specs.declared.Node.{Node};
 ghost use Rattle.wf.specs.Rule.{capped, unWidth, binWidth, extractWidth, iteWidth, hasWidth, pairBad, chainGood, argBad, argsGood, nodeWidth};
-ghost use Rattle.wf.specs.Widths.{rowWidth, widthsTo, illRow, badRoot};
+ghost use Rattle.wf.specs.Widths.{widthsTo, goodWidth, stopRow, badRoot};
 
 use rows::Graph;
 use rows::Node;
@@ -291,19 +291,24 @@ fn node_width(ws: &[u64], nbits: u64, side: &[u64], node: Node) -> u64
     }
 }
 
-// The width of row i after rows of widths ws.
+// The width of row i after rows of widths ws, or 0 where it is badly encoded or ill-formed.
 fn row_width(graph: Graph, g: &[u64], i: usize, nbits: u64, side: &[u64], ws: &[u64]) -> u64
     requires { ⌜ i < rowCount graph (now g) ⌝ }
-    ensures width { λ r. ⌜ r ≡ rowWidth graph nbits (now (side .entry)) (now (g .entry)) i (now (ws .entry)) ⌝ }
+    ensures width { λ r. ⌜ r ≡ goodWidth graph nbits (now (side .entry)) (now (g .entry)) i (now (ws .entry)) ⌝ }
 {
-    let node = rows::decode(rows::row(graph, g, i));
+    let r = rows::row(graph, g, i);
+    if !rows::row_good(graph, r) {
+        return 0;
+    }
+    let node = rows::decode(r);
     node_width(ws, nbits, side, node)
 }
 
-// `ext_wf` of a source and `dag_wf` of a target: the first ill-formed row, or the number of rows; the widths before it stand in ws.
+// `ext_wf` of a source and `dag_wf` of a target: the first row that is badly encoded or ill-formed, or the number of rows.
+// The widths of the rows before it stand in ws.
 pub fn graph_wf(graph: Graph, g: &[u64], nbits: u64, side: &[u64], ws: &mut [u64]) -> usize
     requires { ⌜ rowCount graph (now g) ≤ length (now ws) ⌝ }
-    ensures row { λ r. ⌜ r ≡ illRow graph nbits (now (side .entry)) (now (g .entry)) ⌝ }
+    ensures row { λ r. ⌜ r ≡ stopRow graph nbits (now (side .entry)) (now (g .entry)) ⌝ }
     ensures list { λ r. ⌜ now (ws .exit) ≡ widthsTo graph nbits (now (side .entry)) (now (g .entry)) r ++ drop r (now (ws .entry)) ⌝ }
 {
     let n = rows::row_count(graph, g);

@@ -1,9 +1,12 @@
 -- The outcome of the width operations, refusal by refusal. Assumes nothing.
 use Prim.Native.Nat.{ℕ, _-_, _<_, _≤_}
 use mathlib.Core.Path.{_≡_, refl, ap, _∙_, sym}
-use mathlib.Core.Bool.{true, false}
+use mathlib.Core.Bool.{Bool, true, false, cond}
 use mathlib.Core.List.{List, _++_}
+use native.Mathlib.Decide.{decLt}
+use native.Mathlib.Omega.{arith}
 use borrow.Author.Tests.{lt-ltb, le-ltb}
+use lib.Dec.{ltb}
 use lib.ListN.{length, replicate, take, drop}
 use Rattle.answers.specs.declared.Answer.the-variants.{Accepted, RowCount, BadRow, BadBit, WorkShort}
 use Rattle.answers.specs.Answer.{lent}
@@ -12,15 +15,35 @@ use Rattle.rows.specs.declared.Graph.{Graph}
 use Rattle.rows.specs.declared.Graph.the-variants.{Source, Target}
 use Rattle.rows.specs.Row.{graphNumber, rowCount, ragged}
 use Rattle.rows.specs.Encoding.{badRow, badBit}
-use Rattle.wf.specs.Widths.{illRow, widths, widthsTo, rowWidth}
-use Rattle.widths.specs.Widths.{out, illFormed, graphWidths}
+use Rattle.wf.specs.Widths.{illRow, stopRow, widths, widthsTo, rowWidth}
+use Rattle.wf.proofs.Stop.{stop-none, stop-ill}
+use Rattle.widths.specs.Widths.{out, illFormed, rowsAnswer, graphWidths}
 
--- an ill-formed row zeroes the list, whichever the graph
-lent-ill : (graph : Graph) (row : ℕ) (old new : List ℕ) → lent (illFormed graph row) old new ≡ replicate (length old) 0
-lent-ill Source row old new = refl
-lent-ill Target row old new = refl
+-- a bad row, a bad bit and an ill-formed row zero the list
+lent-zero : (p q : Bool) (graph : Graph) (a b d row : ℕ) (old new : List ℕ)
+    → lent (cond p (BadRow a d) (cond q (BadBit b d) (illFormed graph row))) old new ≡ replicate (length old) 0
+lent-zero true q graph a b d row old new = refl
+lent-zero false true graph a b d row old new = refl
+lent-zero false false Source a b d row old new = refl
+lent-zero false false Target a b d row old new = refl
+
+lent-rows : (graph : Graph) (g bits : List ℕ) (row : ℕ) → row < rowCount graph g → (old new : List ℕ)
+    → lent (rowsAnswer graph g bits row) old new ≡ replicate (length old) 0
+lent-rows graph g bits row h old new =
+    rw (lt-ltb _ _ h)
+    (lent-zero (ltb (badRow graph g) (rowCount graph g)) (ltb (badBit bits) (length bits)) graph (badRow graph g) (badBit bits) (graphNumber graph) row old new)
 
 module _ (graph : Graph) (g bits side ws : List ℕ) where
+  -- where the pass stops, the refusal is the same as for the first ill-formed row
+  stop-answer : stopRow graph (length bits) side g < rowCount graph g
+      → rowsAnswer graph g bits (illRow graph (length bits) side g) ≡ rowsAnswer graph g bits (stopRow graph (length bits) side g)
+  stop-answer h = go (decLt (badRow graph g) (rowCount graph g))
+    where
+      go : Dec (badRow graph g < rowCount graph g)
+          → rowsAnswer graph g bits (illRow graph (length bits) side g) ≡ rowsAnswer graph g bits (stopRow graph (length bits) side g)
+      go (yes l) = rw (lt-ltb _ _ l)
+      go (no l) = ap (rowsAnswer graph g bits) (stop-ill graph (length bits) side g h (omega arith))
+
   pub widths-15 : ragged graph g ≡ true → graphWidths graph g bits side ws ≡ out (RowCount (graphNumber graph)) ws
   widths-15 r = rw r
 
@@ -29,33 +52,33 @@ module _ (graph : Graph) (g bits side ws : List ℕ) where
     widths-18 h = rw (whole, lt-ltb _ _ h)
 
     module _ (room : rowCount graph g ≤ length ws) where
-      pub widths-16 : badRow graph g < rowCount graph g
-          → graphWidths graph g bits side ws ≡ out (BadRow (badRow graph g) (graphNumber graph)) (replicate (length ws) 0)
-      widths-16 h = rw (whole, le-ltb _ _ room, lt-ltb _ _ h)
+      pub widths-stop : stopRow graph (length bits) side g < rowCount graph g
+          → graphWidths graph g bits side ws ≡ out (rowsAnswer graph g bits (stopRow graph (length bits) side g)) (replicate (length ws) 0)
+      widths-stop h =
+          rw (whole, le-ltb _ _ room, stop-answer h)
+          (ap (out (rowsAnswer graph g bits (stopRow graph (length bits) side g))) (lent-rows graph g bits _ h ws _))
 
-      module _ (good : rowCount graph g ≤ badRow graph g) where
+      module _ (all : rowCount graph g ≤ stopRow graph (length bits) side g) where
         pub widths-17 : badBit bits < length bits
             → graphWidths graph g bits side ws ≡ out (BadBit (badBit bits) (graphNumber graph)) (replicate (length ws) 0)
-        widths-17 h = rw (whole, le-ltb _ _ room, le-ltb _ _ good, lt-ltb _ _ h)
+        widths-17 h =
+            let good : rowCount graph g ≤ badRow graph g = omega (arith, stop-none graph (length bits) side g all .0) in
+            rw (whole, le-ltb _ _ room, le-ltb _ _ good, lt-ltb _ _ h)
 
-        module _ (clean : length bits ≤ badBit bits) where
-          pub widths-ill : illRow graph (length bits) side g < rowCount graph g
-              → graphWidths graph g bits side ws ≡ out (illFormed graph (illRow graph (length bits) side g)) (replicate (length ws) 0)
-          widths-ill h =
-              rw (whole, le-ltb _ _ room, le-ltb _ _ good, le-ltb _ _ clean, lt-ltb _ _ h)
-              (ap (out (illFormed graph (illRow graph (length bits) side g))) (lent-ill graph _ ws _))
+        pub widths-accepted : length bits ≤ badBit bits
+            → graphWidths graph g bits side ws
+            ≡ out Accepted (widths graph (length bits) side g ++ replicate (length ws - rowCount graph g) 0)
+        widths-accepted clean =
+            let good : rowCount graph g ≤ badRow graph g = omega (arith, stop-none graph (length bits) side g all .0) in
+            let formed : rowCount graph g ≤ illRow graph (length bits) side g = omega (arith, stop-none graph (length bits) side g all .1) in
+            rw (whole, le-ltb _ _ room, le-ltb _ _ good, le-ltb _ _ clean, le-ltb _ _ formed)
+            (ap (λ (n : ℕ). out Accepted (widths graph (length bits) side g ++ replicate (length ws - n) 0))
+            (build-length (rowWidth graph (length bits) side g) (rowCount graph g)))
 
-          pub widths-accepted : rowCount graph g ≤ illRow graph (length bits) side g
-              → graphWidths graph g bits side ws
-              ≡ out Accepted (widths graph (length bits) side g ++ replicate (length ws - rowCount graph g) 0)
-          widths-accepted h =
-              rw (whole, le-ltb _ _ room, le-ltb _ _ good, le-ltb _ _ clean, le-ltb _ _ h)
-              (ap (λ (n : ℕ). out Accepted (widths graph (length bits) side g ++ replicate (length ws - n) 0))
-              (build-length (rowWidth graph (length bits) side g) (rowCount graph g)))
-
--- the list that the row loop left, with zeros from row n on, where every row is well formed
+-- the list that the row loop left, with zeros from row n on, where it came to the end
 pub accepted-list : (graph : Graph) (nbits : ℕ) (g side ws l : List ℕ) (n r : ℕ) → n ≡ rowCount graph g → r ≡ n → length l ≡ length ws
     → l ≡ widthsTo graph nbits side g r ++ drop r ws
     → take n l ++ replicate (length l - n) 0 ≡ widths graph nbits side g ++ replicate (length ws - rowCount graph g) 0
 accepted-list graph nbits g side ws l n r en er el e =
-    rw (el, e, er, en) (ap (λ (z : List ℕ). z ++ replicate (length ws - rowCount graph g) 0) (build-front (rowWidth graph nbits side g) (rowCount graph g) _))
+    rw (el, e, er, en)
+    (ap (λ (z : List ℕ). z ++ replicate (length ws - rowCount graph g) 0) (build-front (rowWidth graph nbits side g) (rowCount graph g) _))

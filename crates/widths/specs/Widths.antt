@@ -26,16 +26,18 @@ abbrev pub illFormed : Graph → ℕ → Answer
 illFormed Source row = Ext row
 illFormed Target row = Core row
 
--- "15, 18, 16, 17, then 1 or 2": each is looked for everywhere before the next. The list lent has `room` words;
--- "with Check's places": 18 names the source's list by 1 and the target's by 2
+-- 16, 17, then the row named as ill-formed, if it is a row: each is looked for everywhere before the next
+abbrev pub rowsAnswer : Graph → List ℕ → List ℕ → ℕ → Answer
+rowsAnswer graph g bits ill =
+    let n = rowCount graph g in
+    cond (ltb (badRow graph g) n) (BadRow (badRow graph g) (graphNumber graph))
+    (cond (ltb (badBit bits) (length bits)) (BadBit (badBit bits) (graphNumber graph)) (cond (ltb ill n) (illFormed graph ill) Accepted))
+
+-- "15, 18, 16, 17, then 1 or 2", over a lent list with room for some words. "With Check's places": 18 names the source's list by 1, the target's by 2
 abbrev pub widthsAnswer : Graph → List ℕ → List ℕ → List ℕ → ℕ → Answer
 widthsAnswer graph g bits side room =
-    let n = rowCount graph g in
     cond (ragged graph g) (RowCount (graphNumber graph))
-    (cond (ltb room n) (WorkShort (graphNumber graph))
-    (cond (ltb (badRow graph g) n) (BadRow (badRow graph g) (graphNumber graph))
-    (cond (ltb (badBit bits) (length bits)) (BadBit (badBit bits) (graphNumber graph))
-    (cond (ltb (illRow graph (length bits) side g) n) (illFormed graph (illRow graph (length bits) side g)) Accepted))))
+    (cond (ltb room (rowCount graph g)) (WorkShort (graphNumber graph)) (rowsAnswer graph g bits (illRow graph (length bits) side g)))
 
 -- the whole outcome over the words of the graph, its bits, its side list and the list lent
 abbrev pub graphWidths : Graph → List ℕ → List ℕ → List ℕ → List ℕ → Out

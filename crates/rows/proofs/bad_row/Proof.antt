@@ -1,4 +1,3 @@
-use native.Mathlib.Nat.{not-suc-le-zero}
 use Prim.Native.Nat.{ℕ, _≤_, _<_, _-_}
 use mathlib.Core.Path.{_≡_, _∙_, sym, ap}
 use mathlib.Core.Bool.{false, not}
@@ -18,10 +17,10 @@ use Rattle.rows.proofs.row_count.Reads as row-count-reads
 use Rattle.rows.proofs.row_good.Reads as row-good-reads
 
 abbrev Inv-loop : tie.InvT-loop
-Inv-loop graph g n i₀ i = (i ≤ n) × ((j : ℕ) → j < i → rowBad graph g j ≡ false)
+Inv-loop graph g from n i₀ i = (i ≤ n) × ((j : ℕ) → j < i → rowBad graph g j ≡ false)
 
 abbrev μ-loop : tie.MeasureT-loop
-μ-loop graph g n i₀ i = n - i
+μ-loop graph g from n i₀ i = n - i
 
 -- src/lib.rt:229:9
 row-count-requires : tie.Need-row-count-requires Inv-loop μ-loop
@@ -29,7 +28,7 @@ row-count-requires c κs = search needs
 
 -- src/lib.rt:231:5
 loop-holds : tie.Need-loop-holds Inv-loop μ-loop
-loop-holds c = (search needs, λ j h. absurd (not-suc-le-zero h))
+loop-holds c = (rw (sym (c .row-count .ensures)) at (c .before .before .pre .0), c .before .before .pre .1)
 
 -- src/lib.rt:232:29
 row-requires : tie.Need-row-requires Inv-loop μ-loop

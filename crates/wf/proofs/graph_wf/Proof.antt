@@ -12,7 +12,8 @@ use lib.Seq.{length-take-le}
 use Rattle.lists.specs.Build.{build}
 use Rattle.lists.proofs.First.{first-at, first-past}
 use Rattle.lists.proofs.Build.{build-start, build-front, build-store}
-use Rattle.wf.specs.Widths.{rowWidth, widthsTo, rowIll}
+use Rattle.wf.proofs.Stop.{good-width}
+use Rattle.wf.specs.Widths.{rowWidth, goodWidth, widthsTo, rowStops}
 use Rattle.wf.proofs.graph_wf.Statement.{statement}
 use Rattle.wf.proofs.graph_wf.Tie as tie
 use Rattle.wf.proofs.graph_wf.Reads as reads
@@ -23,7 +24,7 @@ use Rattle.wf.proofs.row_width.Reads as row-width-reads
 abbrev Inv-loop : tie.InvT-loop
 Inv-loop graph g nbits side ws₀ n i₀ ws i = 
     (i ≤ n) × (length ws ≡ length ws₀) × (ws ≡ widthsTo graph nbits side g i ++ drop i ws₀) ×
-    ((j : ℕ) → j < i → rowIll graph nbits side g j ≡ false)
+    ((j : ℕ) → j < i → rowStops graph nbits side g j ≡ false)
 
 abbrev μ-loop : tie.MeasureT-loop
 μ-loop graph g nbits side ws₀ n i₀ ws i = n - i
@@ -48,16 +49,16 @@ slice-aggregate-row-width c = sym (length-take-le _ _ (omega arith))
 row-width-requires : tie.Need-row-width-requires Inv-loop μ-loop
 row-width-requires c κs = rw (c .before .before .before .row-count .ensures) at (c .before .loop-test .taken)
 
--- what the call gives is the rule's width over the widths before row i
+-- what the call gives, over the widths before row i
 width-is : (c : tie.After-row-width Inv-loop μ-loop)
     → let s = c .before .before .before .before .before .before .before .before .args in
       let i = c .before .before .before .loop .i in
-      c .row-width .result ≡ rowWidth (s .graph) (s .nbits) (s .side .now) (s .g .now) i (widthsTo (s .graph) (s .nbits) (s .side .now) (s .g .now) i)
+      c .row-width .result ≡ goodWidth (s .graph) (s .nbits) (s .side .now) (s .g .now) i (widthsTo (s .graph) (s .nbits) (s .side .now) (s .g .now) i)
 width-is c =
     let s = c .before .before .before .before .before .before .before .before .args in
     let l = c .before .before .before .loop in
     c .row-width .ensures
-    ∙ ap (rowWidth (s .graph) (s .nbits) (s .side .now) (s .g .now) (l .i)) (ap (take (l .i)) (l .inv .2) ∙ build-front _ (l .i) _)
+    ∙ ap (goodWidth (s .graph) (s .nbits) (s .side .now) (s .g .now) (l .i)) (ap (take (l .i)) (l .inv .2) ∙ build-front _ (l .i) _)
 
 -- src/lib.rt:308:13
 same-length : tie.Need-same-length Inv-loop μ-loop
@@ -69,7 +70,7 @@ returns c =
     let s = c .before .before .before .before .before .before .before .before .before .args in
     let l = c .before .before .before .before .loop in
     let e = c .before .before .before .before .before .row-count .ensures in
-    (sym (first-at (rowIll (s .graph) (s .nbits) (s .side .now) (s .g .now)) _ _ (rw e at (c .before .before .before .loop-test .taken)) (eq-eqb _ _ (sym (width-is (c .before)) ∙ c .if1 .taken)) (l .inv .3)), l .inv .2)
+    (sym (first-at (rowStops (s .graph) (s .nbits) (s .side .now) (s .g .now)) _ _ (rw e at (c .before .before .before .loop-test .taken)) (eq-eqb _ _ (sym (width-is (c .before)) ∙ c .if1 .taken)) (l .inv .3)), l .inv .2)
 
 -- src/lib.rt:310:9
 mul-ws : tie.Need-mul-ws Inv-loop μ-loop
@@ -92,11 +93,13 @@ loop-again : tie.Need-loop-again Inv-loop μ-loop
 loop-again c =
     let s = c .before .before .before .before .before .before .before .before .before .args in
     let l = c .before .before .before .before .loop in
+    let on = ne-eqb _ _ (λ z. c .if1 .left (width-is (c .before) ∙ z)) in
     (
       omega arith,
       simp length-set (l .inv .1),
-      rw (width-is (c .before), l .inv .2) (build-store (rowWidth (s .graph) (s .nbits) (s .side .now) (s .g .now)) (s .ws .now) 0 (l .i) (omega arith)),
-      below-more _ _ (l .inv .3) (ne-eqb _ _ (λ z. c .if1 .left (width-is (c .before) ∙ z))),
+      rw (width-is (c .before) ∙ good-width (s .graph) (s .nbits) (s .side .now) (s .g .now) (l .i) on, l .inv .2)
+      (build-store (rowWidth (s .graph) (s .nbits) (s .side .now) (s .g .now)) (s .ws .now) 0 (l .i) (omega arith)),
+      below-more _ _ (l .inv .3) on,
     )
 
 -- src/lib.rt:298:1
@@ -109,7 +112,7 @@ returns-2 c =
     let s = c .before .before .before .before .before .before .args in
     let l = c .before .loop in
     let e = c .before .before .row-count .ensures in
-    (sym (first-past (rowIll (s .graph) (s .nbits) (s .side .now) (s .g .now)) _ _ (rw e at (l .inv .0)) (rw e at (c .loop-test .left)) (l .inv .3)), l .inv .2)
+    (sym (first-past (rowStops (s .graph) (s .nbits) (s .side .now) (s .g .now)) _ _ (rw e at (l .inv .0)) (rw e at (c .loop-test .left)) (l .inv .3)), l .inv .2)
 
 pub graph-wf-spec : {M : Type 1} → statement M
 graph-wf-spec =

@@ -1,0 +1,184 @@
+//! The fixed list: small cases with the expected outcomes, one a line, for the
+//! program that replays them. Only rules and reference make it; the library is
+//! not asked.
+
+use std::collections::BTreeSet;
+
+use crate::graphs::{Builder, Style};
+use crate::operation::{Kind, Lists, Operation, Outcome, OPERATIONS};
+use crate::random::Random;
+use crate::rules::{Graph, SOURCE, TARGET};
+use crate::tags::{CALL, CONCAT, EXTRACT, SELECT, VAR};
+use crate::widths::{SOURCE_WIDTHS, TARGET_WIDTHS};
+
+const MAX: u64 = u64::MAX;
+
+/// A case has at most so many rows, a line so many characters, the list so
+/// many bytes.
+const ROWS: usize = 8;
+const LINE: usize = 400;
+const BYTES: usize = 60_000;
+
+/// How many random cases of an answer an operation gets.
+const WANTED: [(u64, usize); 8] = [
+    (0, 20),
+    (1, 42),
+    (2, 42),
+    (15, 8),
+    (16, 14),
+    (17, 8),
+    (18, 8),
+    (19, 20),
+];
+
+#[derive(Default)]
+struct List {
+    lines: Vec<String>,
+    /// Operation and tag of the rows taken so far.
+    taken: BTreeSet<(u64, u64)>,
+    /// A case with a field of MAX was taken, one was refused.
+    highest: [bool; 2],
+}
+
+/// Writes the list to standard output; false if it is not what it should be.
+pub fn list(seed: u64) -> bool {
+    let mut random = Random::new(seed);
+    let mut list = List::default();
+    each_tag(&mut random, SOURCE, &SOURCE_WIDTHS, &mut list);
+    each_tag(&mut random, TARGET, &TARGET_WIDTHS, &mut list);
+    for lists in edges() {
+        list.add(&SOURCE_WIDTHS, lists);
+    }
+    for (operation, _) in OPERATIONS {
+        for (number, count) in WANTED {
+            if operation.answers().contains(&number) {
+                some(&mut random, operation, number, count, &mut list);
+            }
+        }
+    }
+    list.lines.iter().for_each(|line| println!("{line}"));
+    list.complete()
+}
+
+/// A well-formed graph for each tag.
+fn each_tag(random: &mut Random, graph: Graph, operation: &'static dyn Operation, list: &mut List) {
+    for tag in 0..graph.tags {
+        let style = random.pick(&[Style::Narrow, Style::Wide]);
+        let mut builder = Builder::new(random, style, usize::MAX);
+        builder.row(tag);
+        let rows = builder.len();
+        let mut lists = builder.lists(graph);
+        let spare = random.place(3);
+        lists.push(random.junk(rows + spare));
+        list.add(operation, lists);
+    }
+}
+
+/// Sources at the edges of numbers: taken, then the same one step further.
+fn edges() -> Vec<Lists> {
+    let top = MAX - 1;
+    let rows: [Vec<u64>; 6] = [
+        vec![VAR, MAX, 0, 0, 0, EXTRACT, top, 0, 0, 0],
+        vec![VAR, MAX, 0, 0, 0, EXTRACT, MAX, 0, 0, 0],
+        vec![VAR, 1, 0, 0, 0, VAR, top, 0, 0, 0, CONCAT, 0, 1, 0, 0],
+        vec![VAR, 1, 0, 0, 0, VAR, MAX, 0, 0, 0, CONCAT, 0, 1, 0, 0],
+        vec![
+            VAR, 32, 0, 0, 0, SELECT, MAX, 0, MAX, 0, CALL, MAX, MAX, MAX, 0,
+        ],
+        vec![
+            VAR, 32, 0, 0, 0, SELECT, MAX, 0, MAX, 0, CALL, MAX, MAX, MAX, 1,
+        ],
+    ];
+    let lists = |rows: Vec<u64>| vec![rows.clone(), vec![], vec![0], vec![7; rows.len() / 5]];
+    rows.into_iter().map(lists).collect()
+}
+
+/// So many random cases that answer this number.
+fn some(
+    random: &mut Random,
+    operation: &'static dyn Operation,
+    number: u64,
+    count: usize,
+    list: &mut List,
+) {
+    let mut left = count;
+    while left > 0 {
+        let lists = operation.generate(random, ROWS);
+        if operation.expected(&lists).answer.number == number && list.add(operation, lists) {
+            left -= 1;
+        }
+    }
+}
+
+impl List {
+    /// Adds a case, unless it is too long or there already.
+    fn add(&mut self, operation: &'static dyn Operation, mut lists: Lists) -> bool {
+        for (list, &(_, kind)) in lists.iter_mut().zip(operation.lists()) {
+            if matches!(kind, Kind::Lent(_)) {
+                // Short words, still not 0.
+                list.iter_mut().for_each(|word| *word = 1 + *word % 15);
+            }
+        }
+        let outcome = operation.expected(&lists);
+        let line = line(operation, &lists, &outcome);
+        if line.len() > LINE || rows(operation, &lists) > ROWS || self.lines.contains(&line) {
+            return false;
+        }
+        self.note(operation, &lists, &outcome);
+        self.lines.push(line);
+        true
+    }
+
+    fn note(&mut self, operation: &dyn Operation, lists: &Lists, outcome: &Outcome) {
+        let refused = outcome.answer.number != 0;
+        if lists[0].contains(&MAX) {
+            self.highest[usize::from(refused)] = true;
+        }
+        if let (Kind::Rows(row), false) = (operation.lists()[0].1, refused) {
+            for row in lists[0].chunks(row) {
+                self.taken.insert((operation.number(), row[0]));
+            }
+        }
+    }
+
+    /// Every tag taken, MAX on both sides, and within its length? The answer
+    /// numbers are all there because `some` looked for each.
+    fn complete(&self) -> bool {
+        let bytes: usize = self.lines.iter().map(|line| line.len() + 1).sum();
+        let tags = SOURCE.tags + TARGET.tags;
+        eprintln!("{} cases, {bytes} bytes", self.lines.len());
+        bytes < BYTES && self.taken.len() as u64 == tags && self.highest == [true; 2]
+    }
+}
+
+fn rows(operation: &dyn Operation, lists: &Lists) -> usize {
+    match operation.lists()[0].1 {
+        Kind::Rows(row) => lists[0].len() / row,
+        _ => 0,
+    }
+}
+
+/// Operation, its lists, the answer, and the lent lists after the call.
+fn line(operation: &dyn Operation, lists: &Lists, outcome: &Outcome) -> String {
+    let mut words = vec![operation.number(), lists.len() as u64];
+    lists.iter().for_each(|list| push_list(&mut words, list));
+    let answer = outcome.answer;
+    words.extend([answer.number, answer.place, answer.detail]);
+    let kinds = operation.lists().iter();
+    let lent: Vec<&Vec<u64>> = kinds
+        .zip(&outcome.lists)
+        .filter(|((_, kind), _)| matches!(kind, Kind::Lent(_)))
+        .map(|(_, list)| list)
+        .collect();
+    words.push(lent.len() as u64);
+    lent.into_iter()
+        .for_each(|list| push_list(&mut words, list));
+    let shown: Vec<String> = words.iter().map(|word| format!("{word:x}")).collect();
+    shown.join(" ")
+}
+
+/// A list as its length and its words.
+fn push_list(words: &mut Vec<u64>, list: &[u64]) {
+    words.push(list.len() as u64);
+    words.extend(list);
+}

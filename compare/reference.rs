@@ -1,0 +1,108 @@
+//! The published Rust, unchanged, called on words.
+//!
+//! Words are turned into its nodes by the row's tag. This is done only after
+//! the rules 15 to 18 found nothing, so each tag is known.
+
+use kernel::blast_kernel::DagNode;
+use kernel::sliver_kernel::{ext_wf, ExtNode, SliverCheckError};
+use kernel::{dag_wf, roots_wf, QueryError};
+
+use crate::tags::{CALL, SELECT};
+
+/// The core node of a row: its tag and its first three fields.
+pub fn dag_node(row: &[u64]) -> DagNode {
+    let (a, b, c) = (row[1] as usize, row[2] as usize, row[3] as usize);
+    match row[0] {
+        0 => DagNode::Var(a),
+        1 => DagNode::Const(a, b),
+        2 => DagNode::Add(a, b),
+        3 => DagNode::Sub(a, b),
+        4 => DagNode::Mul(a, b),
+        5 => DagNode::Udiv(a, b),
+        6 => DagNode::Urem(a, b),
+        7 => DagNode::And(a, b),
+        8 => DagNode::Or(a, b),
+        9 => DagNode::Xor(a, b),
+        10 => DagNode::Shl(a, b),
+        11 => DagNode::Lshr(a, b),
+        12 => DagNode::Ashr(a, b),
+        13 => DagNode::Rotr(a, b),
+        14 => DagNode::Extract(a, b, c),
+        15 => DagNode::Concat(a, b),
+        16 => DagNode::ZeroExt(a, b),
+        17 => DagNode::SignExt(a, b),
+        18 => DagNode::Ite(a, b, c),
+        19 => DagNode::Eq(a, b),
+        20 => DagNode::Ne(a, b),
+        21 => DagNode::Ult(a, b),
+        22 => DagNode::Ule(a, b),
+        23 => DagNode::Ugt(a, b),
+        24 => DagNode::Uge(a, b),
+        25 => DagNode::Slt(a, b),
+        26 => DagNode::Sle(a, b),
+        27 => DagNode::Sgt(a, b),
+        28 => DagNode::Sge(a, b),
+        29 => DagNode::Not(a),
+        30 => DagNode::BoolAnd(a, b),
+        31 => DagNode::BoolOr(a, b),
+        32 => DagNode::BvNot(a),
+        33 => DagNode::Neg(a),
+        34 => DagNode::Rotl(a, b),
+        35 => DagNode::Sdiv(a, b),
+        36 => DagNode::Srem(a, b),
+        tag => panic!("no core node has the tag {tag}"),
+    }
+}
+
+/// The extended node of a source row.
+pub fn ext_node(row: &[u64]) -> ExtNode {
+    let field = |k: usize| row[k] as usize;
+    match row[0] {
+        SELECT => ExtNode::Select(field(1), field(2), field(3), field(4)),
+        CALL => ExtNode::Call(field(1), field(2), field(3), field(4)),
+        _ => ExtNode::Core(dag_node(row)),
+    }
+}
+
+pub fn dag_nodes(target: &[u64]) -> Vec<DagNode> {
+    target.chunks_exact(4).map(dag_node).collect()
+}
+
+pub fn ext_nodes(source: &[u64]) -> Vec<ExtNode> {
+    source.chunks_exact(5).map(ext_node).collect()
+}
+
+pub fn sizes(words: &[u64]) -> Vec<usize> {
+    words.iter().map(|&w| w as usize).collect()
+}
+
+fn words(sizes: Vec<usize>) -> Vec<u64> {
+    sizes.into_iter().map(|w| w as u64).collect()
+}
+
+/// The widths of a source's rows, or the first row that `ext_wf` refuses.
+pub fn source_widths(source: &[u64], bits: usize, side: &[u64]) -> Result<Vec<u64>, u64> {
+    match ext_wf(&ext_nodes(source), bits, &sizes(side)) {
+        Ok(widths) => Ok(words(widths)),
+        Err(SliverCheckError::Ext { node }) => Err(node as u64),
+        Err(other) => panic!("ext_wf refused with {other:?}"),
+    }
+}
+
+/// The widths of a target's rows, or the first row that `dag_wf` refuses.
+pub fn target_widths(target: &[u64], bits: usize) -> Result<Vec<u64>, u64> {
+    match dag_wf(&dag_nodes(target), bits) {
+        Ok(widths) => Ok(words(widths)),
+        Err(QueryError::NodeNotWellFormed { node }) => Err(node as u64),
+        Err(other) => panic!("dag_wf refused with {other:?}"),
+    }
+}
+
+/// Nothing, or the first position that `roots_wf` refuses.
+pub fn roots(widths: &[u64], roots: &[u64]) -> Result<(), u64> {
+    match roots_wf(&sizes(widths), &sizes(roots)) {
+        Ok(()) => Ok(()),
+        Err(QueryError::BadRoot { root }) => Err(root as u64),
+        Err(other) => panic!("roots_wf refused with {other:?}"),
+    }
+}

@@ -1,0 +1,99 @@
+//! What the scope adds to the published Rust: the refusals 15 to 18, their
+//! order, and what a lent list holds after each answer.
+
+use crate::ours::Answer;
+use crate::tags::TAGS;
+
+/// The two kinds of graph.
+#[derive(Clone, Copy)]
+pub struct Graph {
+    /// 1 for a source, 2 for a target: its place in 15 and 18, its detail in
+    /// 16 and 17, and the number of its own refusal.
+    pub number: u64,
+    /// Words in a row.
+    pub row: usize,
+    /// Tags from this one on are unknown.
+    pub tags: u64,
+}
+
+pub const SOURCE: Graph = Graph {
+    number: 1,
+    row: 5,
+    tags: 39,
+};
+pub const TARGET: Graph = Graph {
+    number: 2,
+    row: 4,
+    tags: 37,
+};
+
+pub const ACCEPTED: Answer = answer(0, 0, 0);
+
+pub const fn answer(number: u64, place: u64, detail: u64) -> Answer {
+    Answer {
+        number,
+        place,
+        detail,
+    }
+}
+
+/// 15: the word count is no multiple of the row.
+pub fn row_count(graph: Graph, rows: &[u64]) -> Option<Answer> {
+    (rows.len() % graph.row != 0).then(|| answer(15, graph.number, 0))
+}
+
+/// 18: the lent list, the `place`th in its operation, is shorter than its graph.
+pub fn work_short(place: u64, graph: Graph, rows: &[u64], lent: &[u64]) -> Option<Answer> {
+    (lent.len() < rows.len() / graph.row).then(|| answer(18, place, 0))
+}
+
+/// 16: the first row with an unknown tag or an unused field that is not 0.
+pub fn bad_row(graph: Graph, rows: &[u64]) -> Option<Answer> {
+    let bad = |row: &[u64]| {
+        row[0] >= graph.tags || row[1 + TAGS[row[0] as usize].1..].iter().any(|&f| f != 0)
+    };
+    let place = rows.chunks_exact(graph.row).position(bad)?;
+    Some(answer(16, place as u64, graph.number))
+}
+
+/// 17: the first bit byte above 1.
+pub fn bad_bit(graph: Graph, bits: &[u64]) -> Option<Answer> {
+    let place = bits.iter().position(|&b| b > 1)?;
+    Some(answer(17, place as u64, graph.number))
+}
+
+/// The answer of source widths or target widths, and the widths that an
+/// acceptance writes. `judge` is the reference, asked only when none of the
+/// four rules above applies.
+pub fn widths(
+    graph: Graph,
+    rows: &[u64],
+    bits: &[u64],
+    lent: &[u64],
+    judge: impl FnOnce() -> Result<Vec<u64>, u64>,
+) -> (Answer, Vec<u64>) {
+    let added = row_count(graph, rows)
+        .or_else(|| work_short(graph.number, graph, rows, lent))
+        .or_else(|| bad_row(graph, rows))
+        .or_else(|| bad_bit(graph, bits));
+    match added {
+        Some(refusal) => (refusal, Vec::new()),
+        None => match judge() {
+            Ok(widths) => (ACCEPTED, widths),
+            Err(row) => (answer(graph.number, row, 0), Vec::new()),
+        },
+    }
+}
+
+/// The memory rule: 15 and 18 write nothing, any other refusal zeroes the
+/// list, acceptance leaves what it wrote and zeros after it.
+pub fn lent_after(answer: Answer, before: &[u64], written: &[u64]) -> Vec<u64> {
+    if answer.number == 15 || answer.number == 18 {
+        return before.to_vec();
+    }
+    let mut after = vec![0; before.len()];
+    if answer.number == 0 {
+        after[..written.len()].copy_from_slice(written);
+    }
+    after
+}

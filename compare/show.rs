@@ -1,0 +1,76 @@
+//! A case for a reader: each list under its name, each row with its tag's name.
+
+use crate::operation::{Kind, Lists, Operation, Outcome};
+use crate::ours::Answer;
+use crate::tags::TAGS;
+
+/// A disagreement: the input, what the library did and what was expected.
+pub fn disagreement(operation: &dyn Operation, lists: &Lists) -> String {
+    let (ours, expected) = (operation.ours(lists), operation.expected(lists));
+    let mut text = format!("{}, on this input:\n", operation.name());
+    for (list, &(name, kind)) in lists.iter().zip(operation.lists()) {
+        text += &named(name, kind, list);
+    }
+    text += &format!("ours:     {}\n", shown(ours.answer));
+    text += &format!("expected: {}\n", shown(expected.answer));
+    text + &differing(operation, &ours, &expected)
+}
+
+fn shown(answer: Answer) -> String {
+    format!(
+        "number {}, place {}, detail {}",
+        answer.number, answer.place, answer.detail
+    )
+}
+
+/// The lists that are not as expected after the call.
+fn differing(operation: &dyn Operation, ours: &Outcome, expected: &Outcome) -> String {
+    let mut text = String::new();
+    for (place, &(name, _)) in operation.lists().iter().enumerate() {
+        if ours.lists[place] != expected.lists[place] {
+            text += &format!("{name} after the call\n");
+            text += &format!("  ours:     {}\n", words(&ours.lists[place]));
+            text += &format!("  expected: {}\n", words(&expected.lists[place]));
+        }
+    }
+    if ours.strayed {
+        text += "the call wrote beside the list that was lent to it\n";
+    }
+    text
+}
+
+fn named(name: &str, kind: Kind, list: &[u64]) -> String {
+    let Kind::Rows(row) = kind else {
+        return format!("  {name}: {}\n", words(list));
+    };
+    let mut text = format!("  {name}: {} words\n", list.len());
+    for (number, words) in list.chunks(row).enumerate() {
+        text += &format!("    row {number}: {}\n", shown_row(words));
+    }
+    text
+}
+
+/// A row as its tag's name and all its fields.
+fn shown_row(row: &[u64]) -> String {
+    let tag = match TAGS.get(usize::try_from(row[0]).unwrap_or(usize::MAX)) {
+        Some((name, _)) => name.to_string(),
+        None => format!("tag {}", word(row[0])),
+    };
+    format!("{tag} {}", words(&row[1..]))
+}
+
+fn words(list: &[u64]) -> String {
+    let shown: Vec<String> = list.iter().map(|&w| word(w)).collect();
+    format!("[{}]", shown.join(", "))
+}
+
+/// Small words in decimal, those near the edges by their distance, others in
+/// hexadecimal.
+fn word(word: u64) -> String {
+    match word {
+        u64::MAX => "MAX".to_string(),
+        w if w > u64::MAX - 1000 => format!("MAX-{}", u64::MAX - w),
+        w if w < 100_000 => w.to_string(),
+        w => format!("{w:#x}"),
+    }
+}

@@ -1,0 +1,142 @@
+//! Tiny graphs, all of them: one row over no, one or two variables, its fields
+//! taken from a few edge values in every combination. Also tiny root lists.
+
+use crate::operation::{Lists, Operation};
+use crate::roots::ROOTS;
+use crate::rules::{Graph, SOURCE, TARGET};
+use crate::tags::{CALL, CONST, SELECT, TAGS};
+use crate::widths::{SOURCE_WIDTHS, TARGET_WIDTHS};
+
+const MAX: u64 = u64::MAX;
+
+/// What is done with each case; false stops the walk.
+pub type Visit<'v> = dyn FnMut(&'static dyn Operation, &Lists) -> bool + 'v;
+
+/// Visits every tiny case; false when the visitor stopped it.
+pub fn each(visit: &mut Visit) -> bool {
+    graphs(SOURCE, &SOURCE_WIDTHS, visit) && graphs(TARGET, &TARGET_WIDTHS, visit) && roots(visit)
+}
+
+/// Every list of exactly `length` words taken from `words`.
+fn lists_of(length: usize, words: &[u64]) -> Vec<Vec<u64>> {
+    let mut all = vec![Vec::new()];
+    for _ in 0..length {
+        let longer = |list: &Vec<u64>| {
+            let list = list.clone();
+            words
+                .iter()
+                .map(move |&word| [list.clone(), vec![word]].concat())
+        };
+        all = all.iter().flat_map(longer).collect();
+    }
+    all
+}
+
+/// Every list of at most `length` words taken from `words`.
+fn lists_up_to(length: usize, words: &[u64]) -> Vec<Vec<u64>> {
+    (0..=length).flat_map(|n| lists_of(n, words)).collect()
+}
+
+/// The last row's tag and fields in every combination. A used field takes the
+/// edge values; the unused ones are 0, and once each 1 or MAX.
+fn last_rows(graph: Graph) -> Vec<Vec<u64>> {
+    let mut rows = Vec::new();
+    for tag in 0..graph.tags.min(SELECT) {
+        let used = TAGS[tag as usize].1;
+        for fields in lists_of(used, &[0, 1, 2, 3, 7, 8, 32, MAX - 1, MAX]) {
+            rows.push(padded(tag, &fields, graph));
+        }
+        for (unused, word) in (used + 1..graph.row).flat_map(|k| [(k, 1), (k, MAX)]) {
+            let mut row = padded(tag, &vec![0; used], graph);
+            row[unused] = word;
+            rows.push(row);
+        }
+    }
+    for tag in [37, 38, 39, 255, 1 << 32, 1 << 63, MAX] {
+        if tag >= graph.tags {
+            rows.push(padded(tag, &[], graph));
+        }
+    }
+    rows
+}
+
+fn padded(tag: u64, fields: &[u64], graph: Graph) -> Vec<u64> {
+    let mut row = [&[tag], fields].concat();
+    row.resize(graph.row, 0);
+    row
+}
+
+/// Select and Call rows: first field 3, the others in every combination.
+fn chain_rows() -> Vec<Vec<u64>> {
+    let mut rows = Vec::new();
+    for tag in [SELECT, CALL] {
+        for second in [0, 1, 2, 32, MAX] {
+            for ends in lists_of(2, &[0, 1, 2, 3, MAX]) {
+                rows.push(vec![tag, 3, second, ends[0], ends[1]]);
+            }
+        }
+    }
+    rows
+}
+
+fn graphs(graph: Graph, operation: &'static dyn Operation, visit: &mut Visit) -> bool {
+    let (last, chains) = (last_rows(graph), chain_rows());
+    let sides = lists_up_to(3, &[0, 1, MAX]);
+    for earlier in lists_up_to(2, &[1, 8, 32]) {
+        let before: Vec<u64> = earlier
+            .iter()
+            .flat_map(|&w| padded(0, &[w], graph))
+            .collect();
+        for row in &last {
+            let most = if row[0] == CONST { 3 } else { 0 };
+            for bits in 0..=most {
+                let rows = [&before[..], row].concat();
+                if !one(graph, operation, rows, vec![1; bits], &[], visit) {
+                    return false;
+                }
+            }
+        }
+        if graph.tags <= SELECT {
+            continue;
+        }
+        for (row, side) in chains
+            .iter()
+            .flat_map(|r| sides.iter().map(move |s| (r, s)))
+        {
+            let rows = [&before[..], row].concat();
+            if !one(graph, operation, rows, vec![], side, visit) {
+                return false;
+            }
+        }
+    }
+    true
+}
+
+fn one(
+    graph: Graph,
+    operation: &'static dyn Operation,
+    rows: Vec<u64>,
+    bits: Vec<u64>,
+    side: &[u64],
+    visit: &mut Visit,
+) -> bool {
+    let lent = vec![0xa5a5; rows.len() / graph.row + 1];
+    let lists = if graph.tags > SELECT {
+        vec![rows, bits, side.to_vec(), lent]
+    } else {
+        vec![rows, bits, lent]
+    };
+    visit(operation, &lists)
+}
+
+fn roots(visit: &mut Visit) -> bool {
+    let all = lists_up_to(2, &[0, 1, 2, 3, MAX]);
+    for widths in lists_up_to(3, &[0, 1, 2, MAX]) {
+        for roots in &all {
+            if !visit(&ROOTS, &vec![widths.clone(), roots.clone()]) {
+                return false;
+            }
+        }
+    }
+    true
+}

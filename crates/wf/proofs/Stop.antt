@@ -1,0 +1,49 @@
+-- One pass that stops at a badly encoded or ill-formed row finds both. Assumes nothing.
+use Prim.Native.Nat.{ℕ, _<_, _≤_}
+use mathlib.Core.Path.{_≡_, refl}
+use mathlib.Core.Bool.{Bool, true, false, cond, not}
+use mathlib.Core.List.{List}
+use native.Mathlib.Omega.{arith}
+use borrow.Author.Tests.{eqb-false, not-false}
+use lib.Dec.{eqb}
+use Rattle.lists.proofs.First.{first-at, first-none, first-before, first-hit}
+use Rattle.rows.specs.declared.Graph.{Graph}
+use Rattle.rows.specs.Row.{rowCount, rowAt}
+use Rattle.rows.specs.Encoding.{rowGood, rowBad, badRow}
+use Rattle.wf.specs.Widths.{rowWidth, widthsTo, goodWidth, rowIll, illRow, rowStops, stopRow}
+
+-- a pair of tests in one: passed over, both fail
+both-pass : (b : Bool) (w : ℕ) → eqb (cond b w 0) 0 ≡ false → (not b ≡ false) × (eqb w 0 ≡ false)
+both-pass true w e = (refl, e)
+both-pass false w e = absurd (eqb-false 0 0 e refl)
+
+module _ (graph : Graph) (nbits : ℕ) (side g : List ℕ) where
+  passed : (i : ℕ) → rowStops graph nbits side g i ≡ false → (rowBad graph g i ≡ false) × (rowIll graph nbits side g i ≡ false)
+  passed i e = both-pass (rowGood graph (rowAt graph g i)) (rowWidth graph nbits side g i (widthsTo graph nbits side g i)) e
+
+  -- a row that is passed over has the rule's width
+  pub good-width : (i : ℕ) → rowStops graph nbits side g i ≡ false
+      → goodWidth graph nbits side g i (widthsTo graph nbits side g i) ≡ rowWidth graph nbits side g i (widthsTo graph nbits side g i)
+  good-width i e = rw (not-false (rowGood graph (rowAt graph g i)) (passed i e .0))
+
+  -- the rows before the stop are good
+  pub stop-good : (j : ℕ) → j < stopRow graph nbits side g → rowBad graph g j ≡ false
+  stop-good j h = passed j (first-before (rowStops graph nbits side g) (rowCount graph g) j h) .0
+
+  stop-formed : (j : ℕ) → j < stopRow graph nbits side g → rowIll graph nbits side g j ≡ false
+  stop-formed j h = passed j (first-before (rowStops graph nbits side g) (rowCount graph g) j h) .1
+
+  -- a pass to the end: no row is bad, none ill-formed
+  pub stop-none : rowCount graph g ≤ stopRow graph nbits side g
+      → (badRow graph g ≡ rowCount graph g) × (illRow graph nbits side g ≡ rowCount graph g)
+  stop-none h =
+      (first-none (rowBad graph g) (rowCount graph g) (λ j l. stop-good j (omega arith)), first-none (rowIll graph nbits side g) (rowCount graph g) (λ j l. stop-formed j (omega arith)))
+
+  -- a stop in a graph without bad rows is the first ill-formed row
+  pub stop-ill : stopRow graph nbits side g < rowCount graph g → rowCount graph g ≤ badRow graph g → illRow graph nbits side g ≡ stopRow graph nbits side g
+  stop-ill h b =
+      first-at (rowIll graph nbits side g) (rowCount graph g) (stopRow graph nbits side g) h
+      (rw (not-false (rowGood graph (rowAt graph g (stopRow graph nbits side g))) good) at (first-hit (rowStops graph nbits side g) (rowCount graph g) h)) stop-formed
+    where
+      good : rowBad graph g (stopRow graph nbits side g) ≡ false
+      good = first-before (rowBad graph g) (rowCount graph g) (stopRow graph nbits side g) (omega arith)
