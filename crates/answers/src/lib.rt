@@ -33,13 +33,45 @@ pub fn words_of(a: Answer) -> Words
     ensures words { λ r. ⌜ r ≡ wordsOf a ⌝ }
 {
     match a {
-        Answer::Accepted => Words { number: 0, place: 0, detail: 0 },
-        Answer::Ext(row) => Words { number: 1, place: row, detail: 0 },
-        Answer::Core(row) => Words { number: 2, place: row, detail: 0 },
-        Answer::RowCount(graph) => Words { number: 15, place: graph, detail: 0 },
-        Answer::BadRow(row, graph) => Words { number: 16, place: row, detail: graph },
-        Answer::BadBit(position, graph) => Words { number: 17, place: position, detail: graph },
-        Answer::WorkShort(list) => Words { number: 18, place: list, detail: 0 },
-        Answer::BadRoot(position) => Words { number: 19, place: position, detail: 0 },
+        Answer::Accepted => Words {
+            number: 0,
+            place: 0,
+            detail: 0,
+        },
+        Answer::Ext(row) => Words {
+            number: 1,
+            place: row,
+            detail: 0,
+        },
+        Answer::Core(row) => Words {
+            number: 2,
+            place: row,
+            detail: 0,
+        },
+        Answer::RowCount(graph) => Words {
+            number: 15,
+            place: graph,
+            detail: 0,
+        },
+        Answer::BadRow(row, graph) => Words {
+            number: 16,
+            place: row,
+            detail: graph,
+        },
+        Answer::BadBit(position, graph) => Words {
+            number: 17,
+            place: position,
+            detail: graph,
+        },
+        Answer::WorkShort(list) => Words {
+            number: 18,
+            place: list,
+            detail: 0,
+        },
+        Answer::BadRoot(position) => Words {
+            number: 19,
+            place: position,
+            detail: 0,
+        },
     }
 }

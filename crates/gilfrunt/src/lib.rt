@@ -3,11 +3,15 @@ ghost use mathlib.Core.Path.{_≡_};
 ghost use Rattle.answers.specs.Answer.{wordsOf};
 ghost use Rattle.widths.specs.Widths.{sourceWidths, targetWidths, rootsAnswer};
 ghost use Rattle.gilfrunt.specs.Exports.{result, resultOf};
-
 use answers::Words;
 
 #[no_mangle]
-pub extern "C" fn gilfrunt_source_widths(source: &[u64], bits: &[u8], side: &[u64], widths: &mut [u64]) -> Words
+pub extern "C" fn gilfrunt_source_widths(
+    source: &[u64],
+    bits: &[u8],
+    side: &[u64],
+    widths: &mut [u64],
+) -> Words
     ensures outcome { λ r. ⌜ result r (now (widths .exit)) ≡ resultOf (sourceWidths (now (source .entry)) (now (bits .entry)) (now (side .entry)) (now (widths .entry))) ⌝ }
 {
     let a = widths::source_widths(source, bits, side, widths);

@@ -9,7 +9,6 @@ ghost use Rattle.rows.specs.Row.{rowCount, rowAt};
 ghost use Rattle.rows.specs.declared.Node.{Node};
 ghost use Rattle.wf.specs.Rule.{capped, unWidth, binWidth, extractWidth, iteWidth, hasWidth, pairBad, chainGood, argBad, argsGood, nodeWidth};
 ghost use Rattle.wf.specs.Widths.{widthsTo, goodWidth, stopRow, badRoot};
-
 use rows::Graph;
 use rows::Node;
 
@@ -17,6 +16,7 @@ use rows::Node;
 const CEILING: u64 = 0xffff_ffff_ffff_ffff;
 // The widths of a Select's index and of an array's cell.
 const INDEX_WIDTH: u64 = 32;
+
 const CELL_WIDTH: u64 = 8;
 
 // The sum of two widths, or 0 where it passes the ceiling.
@@ -264,7 +264,11 @@ fn select_row(ws: &[u64], side: &[u64], array: u64, j: u64, s: u64, k: u64) -> u
     if ws[i] != INDEX_WIDTH {
         return 0;
     }
-    if chain_wf(ws, side, s, k, INDEX_WIDTH, CELL_WIDTH) { CELL_WIDTH } else { 0 }
+    if chain_wf(ws, side, s, k, INDEX_WIDTH, CELL_WIDTH) {
+        CELL_WIDTH
+    } else {
+        0
+    }
 }
 
 fn call_row(ws: &[u64], side: &[u64], f: u64, w: u64, s: u64, k: u64) -> u64

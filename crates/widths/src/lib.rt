@@ -5,7 +5,6 @@ ghost use Prim.Native.Nat.{ℕ, _<_};
 ghost use Rattle.rows.specs.Row.{rowCount};
 ghost use Rattle.rows.specs.Encoding.{rowBad};
 ghost use Rattle.widths.specs.Widths.{out, illFormed, rowsAnswer, graphWidths, sourceWidths, targetWidths, rootsAnswer};
-
 use answers::Answer;
 use rows::Graph;
 

@@ -22,7 +22,7 @@ use Rattle.rows.proofs.row_count.Reads as row-count-reads
 use Rattle.wf.proofs.row_width.Reads as row-width-reads
 
 abbrev Inv-loop : tie.InvT-loop
-Inv-loop graph g nbits side ws₀ n i₀ ws i = 
+Inv-loop graph g nbits side ws₀ n i₀ ws i =
     (i ≤ n) × (length ws ≡ length ws₀) × (ws ≡ widthsTo graph nbits side g i ++ drop i ws₀) ×
     ((j : ℕ) → j < i → rowStops graph nbits side g j ≡ false)
 
@@ -52,8 +52,8 @@ row-width-requires c κs = rw (c .before .before .before .row-count .ensures) at
 -- what the call gives, over the widths before row i
 width-is : (c : tie.After-row-width Inv-loop μ-loop)
     → let s = c .before .before .before .before .before .before .before .before .args in
-      let i = c .before .before .before .loop .i in
-      c .row-width .result ≡ goodWidth (s .graph) (s .nbits) (s .side .now) (s .g .now) i (widthsTo (s .graph) (s .nbits) (s .side .now) (s .g .now) i)
+    let i = c .before .before .before .loop .i in
+    c .row-width .result ≡ goodWidth (s .graph) (s .nbits) (s .side .now) (s .g .now) i (widthsTo (s .graph) (s .nbits) (s .side .now) (s .g .now) i)
 width-is c =
     let s = c .before .before .before .before .before .before .before .before .args in
     let l = c .before .before .before .loop in
@@ -93,12 +93,11 @@ loop-again : tie.Need-loop-again Inv-loop μ-loop
 loop-again c =
     let s = c .before .before .before .before .before .before .before .before .before .args in
     let l = c .before .before .before .before .loop in
-    let on = ne-eqb _ _ (λ z. c .if1 .left (width-is (c .before) ∙ z)) in
-    (
+    let on = ne-eqb _ _ (λ z. c .if1 .left (width-is (c .before) ∙ z)) in (
       omega arith,
       simp length-set (l .inv .1),
       rw (width-is (c .before) ∙ good-width (s .graph) (s .nbits) (s .side .now) (s .g .now) (l .i) on, l .inv .2)
-      (build-store (rowWidth (s .graph) (s .nbits) (s .side .now) (s .g .now)) (s .ws .now) 0 (l .i) (omega arith)),
+          (build-store (rowWidth (s .graph) (s .nbits) (s .side .now) (s .g .now)) (s .ws .now) 0 (l .i) (omega arith)),
       below-more _ _ (l .inv .3) on,
     )
 

@@ -32,7 +32,7 @@ node-width-requires c κs = search needs
 
 -- src/lib.rt:295:1
 returns-2 : tie.Need-returns-2
-returns-2 c = 
+returns-2 c =
     let row = c .before .before .before .before .row .ensures in
     rw (rw row at (sym (c .before .before .before .row-good .ensures) ∙ not-false _ (c .before .before .if1 .left)))
     (c .node-width .ensures ∙ rw (c .before .decode .ensures, row))

@@ -122,7 +122,7 @@ returns-5 c =
     let most = first-le (rowStops (s .graph) (length (s .bits .now)) (s .side .now) (s .g .now)) (rowCount (s .graph) (s .g .now)) in
     let all : w .result ≡ c .before .before .before .before .before .before .before .before .before .before .before .before .row-count .result = omega (arith, w .ensures .0, most, count) in
     ap (out Accepted) (c .before .before .clear-from .ensures
-      ∙ accepted-list (s .graph) (length (s .bits .now)) (s .g .now) (s .side .now) (s .ws .now) _ _ _ count all (w .kept .1 .1 .1 .1 .0) (w .ensures .1))
+    ∙ accepted-list (s .graph) (length (s .bits .now)) (s .g .now) (s .side .now) (s .ws .now) _ _ _ count all (w .kept .1 .1 .1 .1 .0) (w .ensures .1))
     ∙ sym (widths-accepted (s .graph) (s .g .now) (s .bits .now) (s .side .now) (s .ws .now) (sym (c .before .before .before .before .before .before .before .before .before .before .before .before .before .before .is-ragged .ensures) ∙ c .before .before .before .before .before .before .before .before .before .before .before .before .before .if1 .left) (rw count at (c .before .before .before .before .before .before .before .before .before .before .before .if2 .left)) (rw (w .ensures .0, count) at (c .before .before .before .before .before .before .if3 .left)) (rw (c .before .before .before .before .before .bad-bit .ensures) at (c .before .before .before .before .if4 .left)))
 
 pub graph-widths-spec : {M : Type 1} → statement M
