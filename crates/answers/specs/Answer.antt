@@ -1,6 +1,5 @@
 -- Answers as numbers, and what each leaves in a lent list (01, 'Operations and what they refuse'). Assumes nothing.
 use Prim.Native.Nat.{ℕ, _-_}
-use mathlib.Core.Bool.{Bool, true, false, cond}
 use mathlib.Core.List.{List, _++_}
 use lib.ListN.{length, replicate}
 use Rattle.answers.specs.declared.Answer.{Answer}

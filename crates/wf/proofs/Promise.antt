@@ -1,5 +1,5 @@
 -- A graph without an ill-formed row keeps the promise of specs/Promise: each rule is read off its test. Assumes nothing.
-use Prim.Native.Nat.{ℕ, zero, _+_, _*_, _-_, _<_, _≤_}
+use Prim.Native.Nat.{ℕ, _+_, _*_, _-_, _<_, _≤_}
 use mathlib.Core.Path.{_≡_, refl, sym, ap, _∙_}
 use mathlib.Core.Bool.{Bool, true, false, cond, not}
 use mathlib.Core.List.{List, [], _∷_}
@@ -7,7 +7,7 @@ use native.Mathlib.Omega.{arith}
 use borrow.Author.Tests.{eqb-true, eqb-false, ltb-true, leb-true, leb-false, ne-eqb, not-false}
 use lib.Dec.{eqb, ltb, leb}
 use lib.ListN.{length, getD}
-use Rattle.lists.specs.First.{first, none}
+use Rattle.lists.specs.First.{none}
 use Rattle.lists.proofs.First.{first-before, none-at}
 use Rattle.lists.proofs.Build.{build-length, build-stay, build-at}
 use Rattle.rows.specs.declared.Graph.{Graph}
@@ -81,10 +81,13 @@ module _ (nbits : ℕ) (side ws : List ℕ) (width : ℕ → ℕ) (agree : (a : 
           let two = eqb-true b 1 u in
           (one ∙ sym two, λ n. (one, two))
       pick false v x = (eqb-true a b (taken (eqb a b) v w x h .0), λ n. let z : _≡_ {A = ℕ} 0 1 = cc in absurd (omega arith))
+
       rest : (t ≡ tConcat → ⊥) → (a ≡ b) × (isBool t ≡ true → (a ≡ 1) × (b ≡ 1))
       rest n = pick (isBool t) _ (rw (ne-eqb t tConcat n) at e)
+
       even : (t ≡ tConcat → ⊥) → a ≡ b
       even n = rest n .0
+
       bits : isBool t ≡ true → (a ≡ 1) × (b ≡ 1)
       bits n = rest (λ q. concat-no t q n) .1 n
 

@@ -1,70 +1,53 @@
+-- `answers::words_of` meets its contract. Assumes nothing.
 use borrow.Author.Needs.{needs}
 use Rattle.answers.proofs.words_of.Statement.{statement}
 use Rattle.answers.proofs.words_of.Tie as tie
-use Rattle.answers.proofs.words_of.Reads as reads
-use Rattle.answers.proofs.words_of.Lts as lts
 
--- src/lib.rt:36:29
 enum-told : tie.Need-enum-told
 enum-told c = search needs
 
--- src/lib.rt:37:21
 enum-known-a : tie.Need-enum-known-a
 enum-known-a c = search needs
 
--- src/lib.rt:38:22
 enum-known-a-2 : tie.Need-enum-known-a-2
 enum-known-a-2 c = search needs
 
--- src/lib.rt:39:26
 enum-known-a-3 : tie.Need-enum-known-a-3
 enum-known-a-3 c = search needs
 
--- src/lib.rt:40:24
 enum-known-a-4 : tie.Need-enum-known-a-4
 enum-known-a-4 c = search needs
 
--- src/lib.rt:41:24
 enum-known-a-5 : tie.Need-enum-known-a-5
 enum-known-a-5 c = search needs
 
--- src/lib.rt:42:27
 enum-known-a-6 : tie.Need-enum-known-a-6
 enum-known-a-6 c = search needs
 
--- src/lib.rt:43:25
 enum-known-a-7 : tie.Need-enum-known-a-7
 enum-known-a-7 c = search needs
 
--- src/lib.rt:32:1
 returns : tie.Need-returns
 returns c = rw (c .enum-told .given .1)
 
--- src/lib.rt:32:1
 returns-2 : tie.Need-returns-2
 returns-2 c = rw (c .before .a .given .1)
 
--- src/lib.rt:32:1
 returns-3 : tie.Need-returns-3
 returns-3 c = rw (c .before .a2 .given .1)
 
--- src/lib.rt:32:1
 returns-4 : tie.Need-returns-4
 returns-4 c = rw (c .before .a3 .given .1)
 
--- src/lib.rt:32:1
 returns-5 : tie.Need-returns-5
 returns-5 c = rw (c .before .a4 .given .1)
 
--- src/lib.rt:32:1
 returns-6 : tie.Need-returns-6
 returns-6 c = rw (c .before .a5 .given .1)
 
--- src/lib.rt:32:1
 returns-7 : tie.Need-returns-7
 returns-7 c = rw (c .before .a6 .given .1)
 
--- src/lib.rt:32:1
 returns-8 : tie.Need-returns-8
 returns-8 c = rw (c .before .a7 .given .1)
 

@@ -1,36 +1,27 @@
+-- `lists::clear_from` meets its contract: the part from `from` on is zeroed, and put back. Assumes nothing.
 use Rattle.lists.proofs.Fill.{fill-end}
 use borrow.Author.Needs.{needs}
 use Rattle.lists.proofs.clear_from.Statement.{statement}
 use Rattle.lists.proofs.clear_from.Tie as tie
-use Rattle.lists.proofs.clear_from.Reads as reads
-use Rattle.lists.proofs.clear_from.Lts as lts
-use Rattle.lists.proofs.clear.Reads as clear-reads
 
--- src/lib.rt:22:11
 mul-clear : tie.Need-mul-clear
 mul-clear c = search needs
 
--- src/lib.rt:22:11
 sub-clear : tie.Need-sub-clear
 sub-clear c = search needs
 
--- src/lib.rt:22:11
 part-clear-start : tie.Need-part-clear-start
 part-clear-start c = search needs
 
--- src/lib.rt:22:11
 part-clear-end : tie.Need-part-clear-end
 part-clear-end c = search needs
 
--- src/lib.rt:22:5
 clear-requires : tie.Need-clear-requires
 clear-requires c κs = search needs
 
--- src/lib.rt:18:1
 same-length : tie.Need-same-length
 same-length c = search needs
 
--- src/lib.rt:18:1
 returns : tie.Need-returns
 returns c =
     let s = c .before .before .before .before .before in

@@ -1,20 +1,13 @@
+-- `rows::bad_row` meets its contract: the loop is the search `first`, begun at `from`. Assumes nothing.
 use Prim.Native.Nat.{ℕ, _≤_, _<_, _-_}
-use mathlib.Core.Path.{_≡_, _∙_, sym, ap}
-use mathlib.Core.Bool.{false, not}
-use native.Mathlib.Omega.{arith}
-use borrow.Author.Count.{below-more, below-none}
+use mathlib.Core.Path.{_≡_, sym}
+use mathlib.Core.Bool.{false}
+use borrow.Author.Count.{below-more}
 use borrow.Author.Needs.{needs}
-use borrow.Author.Tests.{lt-ltb, le-ltb, not-true, not-false}
-use lib.ListN.{length}
 use Rattle.lists.proofs.First.{first-at, first-past}
-use Rattle.rows.specs.Encoding.{bitBad, rowBad, rowGood}
+use Rattle.rows.specs.Encoding.{rowBad}
 use Rattle.rows.proofs.bad_row.Statement.{statement}
 use Rattle.rows.proofs.bad_row.Tie as tie
-use Rattle.rows.proofs.bad_row.Reads as reads
-use Rattle.rows.proofs.bad_row.Lts as lts
-use Rattle.rows.proofs.row.Reads as row-reads
-use Rattle.rows.proofs.row_count.Reads as row-count-reads
-use Rattle.rows.proofs.row_good.Reads as row-good-reads
 
 abbrev Inv-loop : tie.InvT-loop
 Inv-loop graph g from n i₀ i = (i ≤ n) × ((j : ℕ) → j < i → rowBad graph g j ≡ false)
@@ -22,43 +15,34 @@ Inv-loop graph g from n i₀ i = (i ≤ n) × ((j : ℕ) → j < i → rowBad gr
 abbrev μ-loop : tie.MeasureT-loop
 μ-loop graph g from n i₀ i = n - i
 
--- src/lib.rt:229:9
 row-count-requires : tie.Need-row-count-requires Inv-loop μ-loop
 row-count-requires c κs = search needs
 
--- src/lib.rt:231:5
 loop-holds : tie.Need-loop-holds Inv-loop μ-loop
 loop-holds c = (rw (sym (c .row-count .ensures)) at (c .before .before .pre .0), c .before .before .pre .1)
 
--- src/lib.rt:232:29
 row-requires : tie.Need-row-requires Inv-loop μ-loop
 row-requires c κs = rw (c .before .before .row-count .ensures) at (c .loop-test .taken)
 
--- src/lib.rt:232:13
 row-good-requires : tie.Need-row-good-requires Inv-loop μ-loop
 row-good-requires c κs = search needs
 
--- src/lib.rt:233:13
 returns : tie.Need-returns Inv-loop μ-loop
 returns c =
     let s = c .before .before .before .before .before .before .before .args in
     let e = c .before .before .before .before .before .row-count .ensures in
     sym (first-at (rowBad (s .graph) (s .g .now)) _ _ (rw e at (c .before .before .before .loop-test .taken)) (rw (c .before .before .row .ensures) at (rw (c .before .row-good .ensures) at (c .if1 .taken))) (c .before .before .before .before .loop .inv .1))
 
--- src/lib.rt:235:9
 add-i : tie.Need-add-i Inv-loop μ-loop
 add-i c = search needs
 
--- src/lib.rt:231:5
 loop-less : tie.Need-loop-less Inv-loop μ-loop
 loop-less c = search needs
 
--- src/lib.rt:231:5
 loop-again : tie.Need-loop-again Inv-loop μ-loop
 loop-again c =
     (search needs, below-more _ _ (c .before .before .before .before .loop .inv .1) (rw (c .before .before .row .ensures) at (rw (c .before .row-good .ensures) at (c .if1 .left))))
 
--- src/lib.rt:226:1
 returns-2 : tie.Need-returns-2 Inv-loop μ-loop
 returns-2 c =
     let s = c .before .before .before .before .args in

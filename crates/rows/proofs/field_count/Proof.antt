@@ -1,38 +1,29 @@
+-- `rows::field_count` meets its contract. Assumes nothing.
 use borrow.Author.Tests.{ne-eqb, lt-ltb, le-ltb}
 use Rattle.rows.proofs.field_count.Statement.{statement}
 use Rattle.rows.proofs.field_count.Tie as tie
-use Rattle.rows.proofs.field_count.Reads as reads
-use Rattle.rows.proofs.field_count.Lts as lts
 
--- src/lib.rt:188:9
 returns : tie.Need-returns
 returns c = simp (le-ltb _ _ (c .if1 .taken))
 
--- src/lib.rt:184:1
 returns-2 : tie.Need-returns-2
 returns-2 c = rw (c .match .keys1)
 
--- src/lib.rt:184:1
 returns-3 : tie.Need-returns-3
 returns-3 c = rw (c .match .keys2)
 
--- src/lib.rt:184:1
 returns-4 : tie.Need-returns-4
 returns-4 c = rw (c .match .keys3)
 
--- src/lib.rt:184:1
 returns-5 : tie.Need-returns-5
 returns-5 c = rw (c .match .keys4)
 
--- src/lib.rt:184:1
 returns-6 : tie.Need-returns-6
 returns-6 c = rw (c .match .keys5)
 
--- src/lib.rt:184:1
 returns-7 : tie.Need-returns-7
 returns-7 c = rw (c .match .keys6)
 
--- src/lib.rt:184:1
 returns-8 : tie.Need-returns-8
 returns-8 c = simp (lt-ltb _ _ (c .before .if1 .left), ne-eqb _ _ (c .match .rest .0 .0 .0 .0 .0 .1), ne-eqb _ _ (c .match .rest .0 .0 .0 .0 .1), ne-eqb _ _ (c .match .rest .0 .0 .0 .1), ne-eqb _ _ (c .match .rest .0 .0 .1), ne-eqb _ _ (c .match .rest .0 .1), ne-eqb _ _ (c .match .rest .1))
 

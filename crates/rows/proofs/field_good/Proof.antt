@@ -1,14 +1,11 @@
+-- `rows::field_good` meets its contract. Assumes nothing.
 use borrow.Author.Tests.{lt-ltb, le-ltb}
 use Rattle.rows.proofs.field_good.Statement.{statement}
 use Rattle.rows.proofs.field_good.Tie as tie
-use Rattle.rows.proofs.field_good.Reads as reads
-use Rattle.rows.proofs.field_good.Lts as lts
 
--- src/lib.rt:201:1
 returns : tie.Need-returns
 returns c = simp (lt-ltb _ _ (c .if1 .taken))
 
--- src/lib.rt:201:1
 returns-2 : tie.Need-returns-2
 returns-2 c = simp (le-ltb _ _ (c .if1 .left))
 

@@ -1,18 +1,16 @@
+-- `rows::first_bad_bit` meets its contract: the loop is the search `first`. Assumes nothing.
 use native.Mathlib.Nat.{not-suc-le-zero}
 use Prim.Native.Nat.{ℕ, _≤_, _<_, _-_}
-use mathlib.Core.Path.{_≡_, _∙_, sym, ap}
-use mathlib.Core.Bool.{false, not}
-use native.Mathlib.Omega.{arith}
-use borrow.Author.Count.{below-more, below-none}
+use mathlib.Core.Path.{_≡_, sym}
+use mathlib.Core.Bool.{false}
+use borrow.Author.Count.{below-more}
 use borrow.Author.Needs.{needs}
-use borrow.Author.Tests.{lt-ltb, le-ltb, not-true, not-false}
+use borrow.Author.Tests.{lt-ltb, le-ltb}
 use lib.ListN.{length}
 use Rattle.lists.proofs.First.{first-at, first-past}
-use Rattle.rows.specs.Encoding.{bitBad, rowBad, rowGood}
+use Rattle.rows.specs.Encoding.{bitBad}
 use Rattle.rows.proofs.first_bad_bit.Statement.{statement}
 use Rattle.rows.proofs.first_bad_bit.Tie as tie
-use Rattle.rows.proofs.first_bad_bit.Reads as reads
-use Rattle.rows.proofs.first_bad_bit.Lts as lts
 
 abbrev Inv-loop : tie.InvT-loop
 Inv-loop bits i₀ i = (i ≤ length bits) × ((j : ℕ) → j < i → bitBad bits j ≡ false)
@@ -20,31 +18,24 @@ Inv-loop bits i₀ i = (i ≤ length bits) × ((j : ℕ) → j < i → bitBad bi
 abbrev μ-loop : tie.MeasureT-loop
 μ-loop bits i₀ i = length bits - i
 
--- src/lib.rt:245:5
 loop-holds : tie.Need-loop-holds Inv-loop μ-loop
 loop-holds c = (search needs, λ j h. absurd (not-suc-le-zero h))
 
--- src/lib.rt:246:16
 shared-slice-read-if1 : tie.Need-shared-slice-read-if1 Inv-loop μ-loop
 shared-slice-read-if1 c = search needs
 
--- src/lib.rt:247:13
 returns : tie.Need-returns Inv-loop μ-loop
 returns c = sym (first-at (bitBad (c .before .before .before .before .args .bits .now)) _ _ (c .before .before .loop-test .taken) (lt-ltb _ _ (c .if1 .taken)) (c .before .before .before .loop .inv .1))
 
--- src/lib.rt:249:9
 add-i : tie.Need-add-i Inv-loop μ-loop
 add-i c = search needs
 
--- src/lib.rt:245:5
 loop-less : tie.Need-loop-less Inv-loop μ-loop
 loop-less c = search needs
 
--- src/lib.rt:245:5
 loop-again : tie.Need-loop-again Inv-loop μ-loop
 loop-again c = (search needs, below-more _ _ (c .before .before .before .loop .inv .1) (le-ltb _ _ (c .if1 .left)))
 
--- src/lib.rt:241:1
 returns-2 : tie.Need-returns-2 Inv-loop μ-loop
 returns-2 c = sym (first-past (bitBad (c .before .before .args .bits .now)) _ _ (c .before .loop .inv .0) (c .loop-test .left) (c .before .loop .inv .1))
 

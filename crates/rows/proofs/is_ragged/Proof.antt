@@ -1,22 +1,17 @@
+-- `rows::is_ragged` meets its contract. Assumes nothing.
 use borrow.Author.Needs.{needs}
 use Rattle.rows.proofs.is_ragged.Statement.{statement}
 use Rattle.rows.proofs.is_ragged.Tie as tie
-use Rattle.rows.proofs.is_ragged.Reads as reads
-use Rattle.rows.proofs.is_ragged.Lts as lts
 
--- src/lib.rt:62:26
 enum-told : tie.Need-enum-told
 enum-told c = search needs
 
--- src/lib.rt:63:26
 enum-told-2 : tie.Need-enum-told-2
 enum-told-2 c = search needs
 
--- src/lib.rt:58:1
 returns : tie.Need-returns
 returns c = rw (c .enum-told .given .1)
 
--- src/lib.rt:58:1
 returns-2 : tie.Need-returns-2
 returns-2 c = rw (c .enum-told2 .given .1)
 

@@ -1,3 +1,4 @@
+-- `rows::largest` meets its contract: no byte passed is above the largest so far. Assumes nothing.
 use Prim.Native.Nat.{ℕ, _≤_, _<_, _-_}
 use native.Mathlib.Nat.{not-suc-le-zero, le-trans}
 use native.Mathlib.Omega.{arith}
@@ -6,9 +7,6 @@ use borrow.Author.Needs.{needs}
 use lib.ListN.{length, getD}
 use Rattle.rows.proofs.largest.Statement.{statement}
 use Rattle.rows.proofs.largest.Tie as tie
-use Rattle.rows.proofs.largest.Reads as reads
-use Rattle.rows.proofs.largest.Lts as lts
-use Rattle.rows.proofs.larger.Reads as larger-reads
 
 abbrev Inv-loop : tie.InvT-loop
 Inv-loop bits most₀ i₀ most i = (i ≤ length bits) × ((j : ℕ) → j < i → getD bits j 0 ≤ most)
@@ -16,31 +14,24 @@ Inv-loop bits most₀ i₀ most i = (i ≤ length bits) × ((j : ℕ) → j < i 
 abbrev μ-loop : tie.MeasureT-loop
 μ-loop bits most₀ i₀ most i = length bits - i
 
--- src/lib.rt:248:5
 loop-holds : tie.Need-loop-holds Inv-loop μ-loop
 loop-holds c = (search needs, λ j h. absurd (not-suc-le-zero h))
 
--- src/lib.rt:249:29
 shared-slice-read-larger : tie.Need-shared-slice-read-larger Inv-loop μ-loop
 shared-slice-read-larger c = search needs
 
--- src/lib.rt:249:9
 larger-requires : tie.Need-larger-requires Inv-loop μ-loop
 larger-requires c κs = search needs
 
--- src/lib.rt:250:9
 add-i : tie.Need-add-i Inv-loop μ-loop
 add-i c = search needs
 
--- src/lib.rt:248:5
 loop-less : tie.Need-loop-less Inv-loop μ-loop
 loop-less c = search needs
 
--- src/lib.rt:248:5
 loop-again : tie.Need-loop-again Inv-loop μ-loop
 loop-again c = (search needs, below-more _ _ (λ j h. le-trans (c .before .before .before .loop .inv .1 j h) (c .larger .ensures .0)) (c .larger .ensures .1))
 
--- src/lib.rt:243:1
 returns : tie.Need-returns Inv-loop μ-loop
 returns c = λ j h. c .before .loop .inv .1 j (omega arith)
 

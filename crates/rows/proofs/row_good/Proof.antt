@@ -1,66 +1,46 @@
-use mathlib.Core.Path.{_≡_, _∙_, sym}
-use mathlib.Core.Bool.{true, false}
-use lib.ListN.{getD}
+-- `rows::row_good` meets its contract: each return is a path through the definition's tests. Assumes nothing.
+use mathlib.Core.Path.{_∙_, sym}
 use borrow.Author.Tests.{lt-ltb, le-ltb, not-true, not-false}
-use Rattle.rows.specs.Encoding.{fieldGood, fieldCount}
 use borrow.Author.Needs.{needs}
 use Rattle.rows.proofs.row_good.Statement.{statement}
 use Rattle.rows.proofs.row_good.Tie as tie
-use Rattle.rows.proofs.row_good.Reads as reads
-use Rattle.rows.proofs.row_good.Lts as lts
-use Rattle.rows.proofs.field_count.Reads as field-count-reads
-use Rattle.rows.proofs.field_good.Reads as field-good-reads
-use Rattle.rows.proofs.tag_count.Reads as tag-count-reads
 
--- src/lib.rt:211:13
 array-read-t : tie.Need-array-read-t
 array-read-t c = search needs
 
--- src/lib.rt:212:8
 tag-count-requires : tie.Need-tag-count-requires
 tag-count-requires c κs = search needs
 
--- src/lib.rt:213:9
 returns : tie.Need-returns
 returns c = rw (le-ltb _ _ (rw (c .before .tag-count .ensures) at (c .if1 .taken)))
 
--- src/lib.rt:215:9
 field-count-requires : tie.Need-field-count-requires
 field-count-requires c κs = search needs
 
--- src/lib.rt:216:26
 array-read-field-good : tie.Need-array-read-field-good
 array-read-field-good c = search needs
 
--- src/lib.rt:216:9
 field-good-requires : tie.Need-field-good-requires
 field-good-requires c κs = search needs
 
--- src/lib.rt:217:9
 returns-2 : tie.Need-returns-2
 returns-2 c = rw (lt-ltb _ _ (rw (c .before .before .before .before .tag-count .ensures) at (c .before .before .before .if1 .left)), rw (c .before .before .field-count .ensures) at (sym (c .before .field-good .ensures) ∙ not-true _ (c .if2 .taken)))
 
--- src/lib.rt:219:26
 array-read-field-good-2 : tie.Need-array-read-field-good-2
 array-read-field-good-2 c = search needs
 
--- src/lib.rt:219:9
 field-good-requires-2 : tie.Need-field-good-requires-2
 field-good-requires-2 c κs = search needs
 
--- src/lib.rt:220:9
 returns-3 : tie.Need-returns-3
 returns-3 c = rw (lt-ltb _ _ (rw (c .before .before .before .before .before .before .tag-count .ensures) at (c .before .before .before .before .before .if1 .left)), rw (c .before .before .before .before .field-count .ensures) at (sym (c .before .before .before .field-good .ensures) ∙ not-false _ (c .before .before .if2 .left)), rw (c .before .before .before .before .field-count .ensures) at (sym (c .before .field-good2 .ensures) ∙ not-true _ (c .if3 .taken)))
 
--- src/lib.rt:222:22
 array-read-field-good-3 : tie.Need-array-read-field-good-3
 array-read-field-good-3 c = search needs
 
--- src/lib.rt:222:5
 field-good-requires-3 : tie.Need-field-good-requires-3
 field-good-requires-3 c κs = search needs
 
--- src/lib.rt:208:1
 returns-4 : tie.Need-returns-4
 returns-4 c = rw (lt-ltb _ _ (rw (c .before .before .before .before .before .before .before .tag-count .ensures) at (c .before .before .before .before .before .before .if1 .left)), rw (c .before .before .before .before .before .field-count .ensures) at (sym (c .before .before .before .before .field-good .ensures) ∙ not-false _ (c .before .before .before .if2 .left)), rw (c .before .before .before .before .before .field-count .ensures) at (sym (c .before .before .field-good2 .ensures) ∙ not-false _ (c .before .if3 .left))) (rw (c .before .before .before .before .before .field-count .ensures) at (c .field-good3 .ensures))
 

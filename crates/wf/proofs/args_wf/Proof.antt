@@ -1,36 +1,29 @@
-use mathlib.Core.Path.{_≡_, _∙_, sym}
+-- `wf::args_wf` meets its contract: a range past the list, or the search over its rows. Assumes nothing.
+use mathlib.Core.Path.{_∙_, sym}
 use native.Mathlib.Omega.{arith}
 use lib.ListN.{length}
-use Rattle.wf.specs.Rule.{pairBad, argBad}
+use Rattle.wf.specs.Rule.{argBad}
 use Rattle.wf.proofs.Rule.{entries-over, entries-in}
 use borrow.Author.Needs.{needs}
 use Rattle.wf.proofs.args_wf.Statement.{statement}
 use Rattle.wf.proofs.args_wf.Tie as tie
-use Rattle.wf.proofs.args_wf.Reads as reads
-use Rattle.wf.proofs.args_wf.Lts as lts
-use Rattle.wf.proofs.list_wf.Reads as list-wf-reads
 
--- src/lib.rt:165:9
 returns : tie.Need-returns
 returns c = rw (c .if1 .taken)
 
--- src/lib.rt:169:9
 returns-2 : tie.Need-returns-2
 returns-2 c =
     let s = c .before .before .before .before .args in
     sym (entries-over 1 (argBad (length (s .ws .now)) (s .side .now) (s .s)) (s .side .now) (s .s) (s .k) (c .before .if1 .left) (omega arith))
 
--- src/lib.rt:172:9
 returns-3 : tie.Need-returns-3
 returns-3 c =
     let s = c .before .before .before .before .before .args in
     sym (entries-over 1 (argBad (length (s .ws .now)) (s .side .now) (s .s)) (s .side .now) (s .s) (s .k) (c .before .before .if1 .left) (omega arith))
 
--- src/lib.rt:174:5
 list-wf-requires : tie.Need-list-wf-requires
 list-wf-requires c κs = search needs
 
--- src/lib.rt:161:1
 returns-4 : tie.Need-returns-4
 returns-4 c =
     let s = c .before .before .before .before .before .before .args in

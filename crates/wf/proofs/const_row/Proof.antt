@@ -1,22 +1,18 @@
+-- `wf::const_row` meets its contract. Assumes nothing.
 use Prim.Native.Nat.{_+_, _<_, _≤_}
-use mathlib.Core.Path.{_≡_, _∙_, sym}
+use mathlib.Core.Path.{sym}
 use native.Mathlib.Omega.{arith}
-use borrow.Author.Tests.{eq-eqb, ne-eqb, lt-ltb, le-ltb, le-leb, lt-leb}
-use Rattle.wf.proofs.Rule.{capped-word, capped-over}
+use borrow.Author.Tests.{le-leb, lt-leb}
+use Rattle.wf.proofs.Rule.{capped-word}
 use Rattle.wf.proofs.const_row.Statement.{statement}
 use Rattle.wf.proofs.const_row.Tie as tie
-use Rattle.wf.proofs.const_row.Reads as reads
-use Rattle.wf.proofs.const_row.Lts as lts
 
--- src/lib.rt:182:9
 returns : tie.Need-returns
 returns c = let h : c .before .args .nbits < c .before .args .s + c .before .args .w = omega arith in rw (lt-leb _ _ h)
 
--- src/lib.rt:178:1
 returns-2 : tie.Need-returns-2
 returns-2 c = let h : c .before .before .args .nbits < c .before .before .args .s + c .before .before .args .w = omega arith in rw (lt-leb _ _ h)
 
--- src/lib.rt:178:1
 returns-3 : tie.Need-returns-3
 returns-3 c = let h : c .before .before .args .s + c .before .before .args .w ≤ c .before .before .args .nbits = omega arith in rw (le-leb _ _ h) (sym (capped-word _ (omega arith)))
 

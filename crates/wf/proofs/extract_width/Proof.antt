@@ -1,26 +1,21 @@
-use mathlib.Core.Path.{_≡_, _∙_, sym}
+-- `wf::extract_width` meets its contract. Assumes nothing.
+use mathlib.Core.Path.{sym}
 use native.Mathlib.Omega.{arith}
-use borrow.Author.Tests.{eq-eqb, ne-eqb, lt-ltb, le-ltb, le-leb, lt-leb}
-use Rattle.wf.proofs.Rule.{capped-word, capped-over}
+use borrow.Author.Tests.{lt-ltb, le-ltb, le-leb, lt-leb}
+use Rattle.wf.proofs.Rule.{capped-word}
 use borrow.Author.Needs.{needs}
 use Rattle.wf.proofs.extract_width.Statement.{statement}
 use Rattle.wf.proofs.extract_width.Tie as tie
-use Rattle.wf.proofs.extract_width.Reads as reads
-use Rattle.wf.proofs.extract_width.Lts as lts
 
--- src/lib.rt:76:9
 returns : tie.Need-returns
 returns c = rw (lt-leb _ _ (c .if1 .taken))
 
--- src/lib.rt:79:9
 returns-2 : tie.Need-returns-2
 returns-2 c = rw (le-leb _ _ (c .before .if1 .left), le-ltb _ _ (c .if2 .taken))
 
--- src/lib.rt:81:5
 add-result : tie.Need-add-result
 add-result c = search needs
 
--- src/lib.rt:72:1
 returns-3 : tie.Need-returns-3
 returns-3 c = rw (le-leb _ _ (c .before .if1 .left), lt-ltb _ _ (c .if2 .left)) (sym (capped-word _ (omega arith)))
 

@@ -1,3 +1,4 @@
+-- `wf::graph_wf` meets its contract: the list is the widths built so far and the rest as it was; the loop is the search for the first row that stops it. Assumes nothing.
 use Prim.Native.Nat.{ℕ, _≤_, _<_, _-_, _+_}
 use mathlib.Core.Path.{_≡_, refl, _∙_, sym, ap}
 use mathlib.Core.Bool.{false}
@@ -9,17 +10,12 @@ use borrow.Author.Needs.{needs}
 use borrow.Author.Tests.{eq-eqb, ne-eqb}
 use lib.ListN.{length, take, drop, length-set}
 use lib.Seq.{length-take-le}
-use Rattle.lists.specs.Build.{build}
 use Rattle.lists.proofs.First.{first-at, first-past}
 use Rattle.lists.proofs.Build.{build-start, build-front, build-store}
 use Rattle.wf.proofs.Stop.{good-width}
 use Rattle.wf.specs.Widths.{rowWidth, goodWidth, widthsTo, rowStops}
 use Rattle.wf.proofs.graph_wf.Statement.{statement}
 use Rattle.wf.proofs.graph_wf.Tie as tie
-use Rattle.wf.proofs.graph_wf.Reads as reads
-use Rattle.wf.proofs.graph_wf.Lts as lts
-use Rattle.rows.proofs.row_count.Reads as row-count-reads
-use Rattle.wf.proofs.row_width.Reads as row-width-reads
 
 abbrev Inv-loop : tie.InvT-loop
 Inv-loop graph g nbits side ws₀ n i₀ ws i =
@@ -29,23 +25,18 @@ Inv-loop graph g nbits side ws₀ n i₀ ws i =
 abbrev μ-loop : tie.MeasureT-loop
 μ-loop graph g nbits side ws₀ n i₀ ws i = n - i
 
--- src/lib.rt:303:9
 row-count-requires : tie.Need-row-count-requires Inv-loop μ-loop
 row-count-requires c κs = search needs
 
--- src/lib.rt:305:5
 loop-holds : tie.Need-loop-holds Inv-loop μ-loop
 loop-holds c = (omega arith, refl, build-start _ _, λ j h. absurd (not-suc-le-zero h))
 
--- src/lib.rt:306:53
 slice-reshare-prefix-row-width : tie.Need-slice-reshare-prefix-row-width Inv-loop μ-loop
 slice-reshare-prefix-row-width c = search needs
 
--- src/lib.rt:306:53
 slice-aggregate-row-width : tie.Need-slice-aggregate-row-width Inv-loop μ-loop
 slice-aggregate-row-width c = sym (length-take-le _ _ (omega arith))
 
--- src/lib.rt:306:13
 row-width-requires : tie.Need-row-width-requires Inv-loop μ-loop
 row-width-requires c κs = rw (c .before .before .before .row-count .ensures) at (c .before .loop-test .taken)
 
@@ -60,11 +51,9 @@ width-is c =
     c .row-width .ensures
     ∙ ap (goodWidth (s .graph) (s .nbits) (s .side .now) (s .g .now) (l .i)) (ap (take (l .i)) (l .inv .2) ∙ build-front _ (l .i) _)
 
--- src/lib.rt:308:13
 same-length : tie.Need-same-length Inv-loop μ-loop
 same-length c = search needs
 
--- src/lib.rt:308:13
 returns : tie.Need-returns Inv-loop μ-loop
 returns c =
     let s = c .before .before .before .before .before .before .before .before .before .args in
@@ -72,23 +61,18 @@ returns c =
     let e = c .before .before .before .before .before .row-count .ensures in
     (sym (first-at (rowStops (s .graph) (s .nbits) (s .side .now) (s .g .now)) _ _ (rw e at (c .before .before .before .loop-test .taken)) (eq-eqb _ _ (sym (width-is (c .before)) ∙ c .if1 .taken)) (l .inv .3)), l .inv .2)
 
--- src/lib.rt:310:9
 mul-ws : tie.Need-mul-ws Inv-loop μ-loop
 mul-ws c = search needs
 
--- src/lib.rt:310:9
 slice-write-ws : tie.Need-slice-write-ws Inv-loop μ-loop
 slice-write-ws c = search needs
 
--- src/lib.rt:311:9
 add-i : tie.Need-add-i Inv-loop μ-loop
 add-i c = search needs
 
--- src/lib.rt:305:5
 loop-less : tie.Need-loop-less Inv-loop μ-loop
 loop-less c = search needs
 
--- src/lib.rt:305:5
 loop-again : tie.Need-loop-again Inv-loop μ-loop
 loop-again c =
     let s = c .before .before .before .before .before .before .before .before .before .args in
@@ -101,11 +85,9 @@ loop-again c =
       below-more _ _ (l .inv .3) on,
     )
 
--- src/lib.rt:298:1
 same-length-2 : tie.Need-same-length-2 Inv-loop μ-loop
 same-length-2 c = search needs
 
--- src/lib.rt:298:1
 returns-2 : tie.Need-returns-2 Inv-loop μ-loop
 returns-2 c =
     let s = c .before .before .before .before .before .before .args in

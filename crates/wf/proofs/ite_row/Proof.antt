@@ -1,55 +1,39 @@
-use mathlib.Core.Path.{_≡_, _∙_, sym}
-use native.Mathlib.Omega.{arith}
-use borrow.Author.Tests.{eq-eqb, ne-eqb, lt-ltb, le-ltb, le-leb, lt-leb}
-use Rattle.wf.proofs.Rule.{capped-word, capped-over}
+-- `wf::ite_row` meets its contract. Assumes nothing.
+use borrow.Author.Tests.{lt-ltb, le-ltb}
 use borrow.Author.Needs.{needs}
 use Rattle.wf.proofs.ite_row.Statement.{statement}
 use Rattle.wf.proofs.ite_row.Tie as tie
-use Rattle.wf.proofs.ite_row.Reads as reads
-use Rattle.wf.proofs.ite_row.Lts as lts
-use Rattle.wf.proofs.ite_width.Reads as ite-width-reads
 
--- src/lib.rt:237:9
 returns : tie.Need-returns
 returns c = rw (le-ltb _ _ (c .if1 .taken))
 
--- src/lib.rt:240:9
 returns-2 : tie.Need-returns-2
 returns-2 c = rw (lt-ltb _ _ (c .before .if1 .left), le-ltb _ _ (c .if2 .taken))
 
--- src/lib.rt:243:9
 returns-3 : tie.Need-returns-3
 returns-3 c = rw (lt-ltb _ _ (c .before .before .if1 .left), lt-ltb _ _ (c .before .if2 .left), le-ltb _ _ (c .if3 .taken))
 
--- src/lib.rt:248:15
 mul-ite-width : tie.Need-mul-ite-width
 mul-ite-width c = search needs
 
--- src/lib.rt:248:15
 shared-slice-read-ite-width : tie.Need-shared-slice-read-ite-width
 shared-slice-read-ite-width c = search needs
 
--- src/lib.rt:248:22
 mul-ite-width-2 : tie.Need-mul-ite-width-2
 mul-ite-width-2 c = search needs
 
--- src/lib.rt:248:22
 shared-slice-read-ite-width-2 : tie.Need-shared-slice-read-ite-width-2
 shared-slice-read-ite-width-2 c = search needs
 
--- src/lib.rt:248:29
 mul-ite-width-3 : tie.Need-mul-ite-width-3
 mul-ite-width-3 c = search needs
 
--- src/lib.rt:248:29
 shared-slice-read-ite-width-3 : tie.Need-shared-slice-read-ite-width-3
 shared-slice-read-ite-width-3 c = search needs
 
--- src/lib.rt:248:5
 ite-width-requires : tie.Need-ite-width-requires
 ite-width-requires c κs = search needs
 
--- src/lib.rt:232:1
 returns-4 : tie.Need-returns-4
 returns-4 c = rw (lt-ltb _ _ (c .before .before .before .before .before .before .if1 .left), lt-ltb _ _ (c .before .before .before .before .before .if2 .left), lt-ltb _ _ (c .before .before .before .before .if3 .left)) (c .ite-width .ensures)
 

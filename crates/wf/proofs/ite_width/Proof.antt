@@ -1,21 +1,17 @@
-use mathlib.Core.Path.{_≡_, _∙_, sym}
+-- `wf::ite_width` meets its contract. Assumes nothing.
+use mathlib.Core.Path.{sym}
 use native.Mathlib.Omega.{arith}
-use borrow.Author.Tests.{eq-eqb, ne-eqb, lt-ltb, le-ltb, le-leb, lt-leb}
-use Rattle.wf.proofs.Rule.{capped-word, capped-over}
+use borrow.Author.Tests.{eq-eqb, ne-eqb}
+use Rattle.wf.proofs.Rule.{capped-word}
 use Rattle.wf.proofs.ite_width.Statement.{statement}
 use Rattle.wf.proofs.ite_width.Tie as tie
-use Rattle.wf.proofs.ite_width.Reads as reads
-use Rattle.wf.proofs.ite_width.Lts as lts
 
--- src/lib.rt:88:9
 returns : tie.Need-returns
 returns c = rw (ne-eqb _ _ (c .if1 .taken))
 
--- src/lib.rt:84:1
 returns-2 : tie.Need-returns-2
 returns-2 c = rw (eq-eqb _ _ (c .before .if1 .left), eq-eqb _ _ (c .if2 .taken)) (sym (capped-word _ (omega arith)))
 
--- src/lib.rt:84:1
 returns-3 : tie.Need-returns-3
 returns-3 c = rw (eq-eqb _ _ (c .before .if1 .left), ne-eqb _ _ (c .if2 .left))
 

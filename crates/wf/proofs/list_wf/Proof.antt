@@ -1,17 +1,16 @@
+-- `wf::list_wf` meets its contract: the loop is a search that finds none. Assumes nothing.
 use Prim.Native.Nat.{ℕ, _≤_, _<_, _-_}
-use mathlib.Core.Path.{_≡_, _∙_, sym}
+use mathlib.Core.Path.{_≡_, sym}
 use mathlib.Core.Bool.{false}
 use native.Mathlib.Nat.{not-suc-le-zero}
 use native.Mathlib.Omega.{arith}
 use borrow.Author.Count.{below-more}
 use borrow.Author.Needs.{needs}
-use borrow.Author.Tests.{le-leb, lt-leb, not-true, not-false}
+use borrow.Author.Tests.{le-leb, lt-leb}
 use Rattle.lists.proofs.First.{none-yes, none-no}
-use Rattle.wf.specs.Rule.{pairBad, argBad}
+use Rattle.wf.specs.Rule.{argBad}
 use Rattle.wf.proofs.list_wf.Statement.{statement}
 use Rattle.wf.proofs.list_wf.Tie as tie
-use Rattle.wf.proofs.list_wf.Reads as reads
-use Rattle.wf.proofs.list_wf.Lts as lts
 
 abbrev Inv-loop : tie.InvT-loop
 Inv-loop n side s k l₀ l = (l ≤ k) × ((j : ℕ) → j < l → argBad n side s j ≡ false)
@@ -19,39 +18,30 @@ Inv-loop n side s k l₀ l = (l ≤ k) × ((j : ℕ) → j < l → argBad n side
 abbrev μ-loop : tie.MeasureT-loop
 μ-loop n side s k l₀ l = k - l
 
--- src/lib.rt:151:5
 loop-holds : tie.Need-loop-holds Inv-loop μ-loop
 loop-holds c = (search needs, λ j h. absurd (not-suc-le-zero h))
 
--- src/lib.rt:152:22
 add-if1 : tie.Need-add-if1 Inv-loop μ-loop
 add-if1 c = omega arith
 
--- src/lib.rt:152:17
 mul-if1 : tie.Need-mul-if1 Inv-loop μ-loop
 mul-if1 c = search needs
 
--- src/lib.rt:152:17
 shared-slice-read-if1 : tie.Need-shared-slice-read-if1 Inv-loop μ-loop
 shared-slice-read-if1 c = omega arith
 
--- src/lib.rt:153:13
 returns : tie.Need-returns Inv-loop μ-loop
 returns c = let s = c .before .before .before .before .args in sym (none-no (argBad (s .n) (s .side .now) (s .s)) _ _ (c .before .before .loop-test .taken) (le-leb _ _ (c .if1 .taken)) (c .before .before .before .loop .inv .1))
 
--- src/lib.rt:155:9
 add-l : tie.Need-add-l Inv-loop μ-loop
 add-l c = omega arith
 
--- src/lib.rt:151:5
 loop-less : tie.Need-loop-less Inv-loop μ-loop
 loop-less c = omega arith
 
--- src/lib.rt:151:5
 loop-again : tie.Need-loop-again Inv-loop μ-loop
 loop-again c = (omega arith, below-more _ _ (c .before .before .before .loop .inv .1) (lt-leb _ _ (c .if1 .left)))
 
--- src/lib.rt:146:1
 returns-2 : tie.Need-returns-2 Inv-loop μ-loop
 returns-2 c = let s = c .before .before .args in sym (none-yes (argBad (s .n) (s .side .now) (s .s)) _ (λ j h. c .before .loop .inv .1 j (omega arith)))
 

@@ -1,54 +1,41 @@
-use mathlib.Core.Path.{_≡_, _∙_, sym, ap}
+-- `wf::pair_bad` meets its contract. Assumes nothing.
+use mathlib.Core.Path.{_∙_, sym, ap}
 use mathlib.Core.Bool.{not}
 use borrow.Author.Tests.{not-true, not-false}
 use borrow.Author.Needs.{needs}
 use Rattle.wf.proofs.pair_bad.Statement.{statement}
 use Rattle.wf.proofs.pair_bad.Tie as tie
-use Rattle.wf.proofs.pair_bad.Reads as reads
-use Rattle.wf.proofs.pair_bad.Lts as lts
-use Rattle.wf.proofs.has_width.Reads as has-width-reads
 
--- src/lib.rt:108:18
 mul-at : tie.Need-mul-at
 mul-at c = search needs
 
--- src/lib.rt:108:14
 add-at : tie.Need-add-at
 add-at c = search needs
 
--- src/lib.rt:109:23
 mul-has-width : tie.Need-mul-has-width
 mul-has-width c = search needs
 
--- src/lib.rt:109:23
 shared-slice-read-has-width : tie.Need-shared-slice-read-has-width
 shared-slice-read-has-width c = search needs
 
--- src/lib.rt:109:9
 has-width-requires : tie.Need-has-width-requires
 has-width-requires c κs = search needs
 
--- src/lib.rt:110:9
 returns : tie.Need-returns
 returns c = rw (sym (c .before .has-width .ensures) ∙ not-true _ (c .if1 .taken))
 
--- src/lib.rt:112:25
 add-has-width : tie.Need-add-has-width
 add-has-width c = search needs
 
--- src/lib.rt:112:20
 mul-has-width-2 : tie.Need-mul-has-width-2
 mul-has-width-2 c = search needs
 
--- src/lib.rt:112:20
 shared-slice-read-has-width-2 : tie.Need-shared-slice-read-has-width-2
 shared-slice-read-has-width-2 c = search needs
 
--- src/lib.rt:112:6
 has-width-requires-2 : tie.Need-has-width-requires-2
 has-width-requires-2 c κs = search needs
 
--- src/lib.rt:104:1
 returns-2 : tie.Need-returns-2
 returns-2 c = rw (sym (c .before .before .before .has-width .ensures) ∙ not-false _ (c .before .before .if1 .left)) (ap not (c .has-width2 .ensures))
 

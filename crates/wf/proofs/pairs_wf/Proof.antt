@@ -1,3 +1,4 @@
+-- `wf::pairs_wf` meets its contract: the loop is a search that finds none. Assumes nothing.
 use Prim.Native.Nat.{ℕ, _≤_, _<_, _-_}
 use mathlib.Core.Path.{_≡_, _∙_, sym}
 use mathlib.Core.Bool.{false}
@@ -5,14 +6,10 @@ use native.Mathlib.Nat.{not-suc-le-zero}
 use native.Mathlib.Omega.{arith}
 use borrow.Author.Count.{below-more}
 use borrow.Author.Needs.{needs}
-use borrow.Author.Tests.{le-leb, lt-leb, not-true, not-false}
 use Rattle.lists.proofs.First.{none-yes, none-no}
-use Rattle.wf.specs.Rule.{pairBad, argBad}
+use Rattle.wf.specs.Rule.{pairBad}
 use Rattle.wf.proofs.pairs_wf.Statement.{statement}
 use Rattle.wf.proofs.pairs_wf.Tie as tie
-use Rattle.wf.proofs.pairs_wf.Reads as reads
-use Rattle.wf.proofs.pairs_wf.Lts as lts
-use Rattle.wf.proofs.pair_bad.Reads as pair-bad-reads
 
 abbrev Inv-loop : tie.InvT-loop
 Inv-loop ws side s k iw cw l₀ l = (l ≤ k) × ((j : ℕ) → j < l → pairBad iw cw ws side s j ≡ false)
@@ -20,31 +17,24 @@ Inv-loop ws side s k iw cw l₀ l = (l ≤ k) × ((j : ℕ) → j < l → pairBa
 abbrev μ-loop : tie.MeasureT-loop
 μ-loop ws side s k iw cw l₀ l = k - l
 
--- src/lib.rt:120:5
 loop-holds : tie.Need-loop-holds Inv-loop μ-loop
 loop-holds c = (search needs, λ j h. absurd (not-suc-le-zero h))
 
--- src/lib.rt:121:12
 pair-bad-requires : tie.Need-pair-bad-requires Inv-loop μ-loop
 pair-bad-requires c κs = omega arith
 
--- src/lib.rt:122:13
 returns : tie.Need-returns Inv-loop μ-loop
 returns c = let s = c .before .before .before .before .before .before .args in sym (none-no (pairBad (s .iw) (s .cw) (s .ws .now) (s .side .now) (s .s)) _ _ (c .before .before .loop-test .taken) (sym (c .before .pair-bad .ensures) ∙ c .if1 .taken) (c .before .before .before .loop .inv .1))
 
--- src/lib.rt:124:9
 add-l : tie.Need-add-l Inv-loop μ-loop
 add-l c = omega arith
 
--- src/lib.rt:120:5
 loop-less : tie.Need-loop-less Inv-loop μ-loop
 loop-less c = omega arith
 
--- src/lib.rt:120:5
 loop-again : tie.Need-loop-again Inv-loop μ-loop
 loop-again c = (omega arith, below-more _ _ (c .before .before .before .loop .inv .1) (sym (c .before .pair-bad .ensures) ∙ c .if1 .left))
 
--- src/lib.rt:115:1
 returns-2 : tie.Need-returns-2 Inv-loop μ-loop
 returns-2 c = let s = c .before .before .before .before .args in sym (none-yes (pairBad (s .iw) (s .cw) (s .ws .now) (s .side .now) (s .s)) _ (λ j h. c .before .loop .inv .1 j (omega arith)))
 

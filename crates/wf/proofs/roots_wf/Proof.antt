@@ -1,6 +1,7 @@
+-- `wf::roots_wf` meets its contract: the loop is the search `first`. Assumes nothing.
 use Prim.Native.Nat.{ℕ, _≤_, _<_, _-_}
-use mathlib.Core.Path.{_≡_, _∙_, sym, ap}
-use mathlib.Core.Bool.{false, not}
+use mathlib.Core.Path.{_≡_, sym}
+use mathlib.Core.Bool.{false}
 use native.Mathlib.Nat.{not-suc-le-zero}
 use native.Mathlib.Omega.{arith}
 use borrow.Author.Count.{below-more}
@@ -10,9 +11,6 @@ use Rattle.lists.proofs.First.{first-at, first-past}
 use Rattle.wf.specs.Widths.{rootBad}
 use Rattle.wf.proofs.roots_wf.Statement.{statement}
 use Rattle.wf.proofs.roots_wf.Tie as tie
-use Rattle.wf.proofs.roots_wf.Reads as reads
-use Rattle.wf.proofs.roots_wf.Lts as lts
-use Rattle.wf.proofs.has_width.Reads as has-width-reads
 
 abbrev Inv-loop : tie.InvT-loop
 Inv-loop ws roots r₀ r = (r ≤ length roots) × ((j : ℕ) → j < r → rootBad ws roots j ≡ false)
@@ -20,39 +18,30 @@ Inv-loop ws roots r₀ r = (r ≤ length roots) × ((j : ℕ) → j < r → root
 abbrev μ-loop : tie.MeasureT-loop
 μ-loop ws roots r₀ r = length roots - r
 
--- src/lib.rt:321:5
 loop-holds : tie.Need-loop-holds Inv-loop μ-loop
 loop-holds c = (search needs, λ j h. absurd (not-suc-le-zero h))
 
--- src/lib.rt:322:27
 mul-has-width : tie.Need-mul-has-width Inv-loop μ-loop
 mul-has-width c = search needs
 
--- src/lib.rt:322:27
 shared-slice-read-has-width : tie.Need-shared-slice-read-has-width Inv-loop μ-loop
 shared-slice-read-has-width c = search needs
 
--- src/lib.rt:322:13
 has-width-requires : tie.Need-has-width-requires Inv-loop μ-loop
 has-width-requires c κs = search needs
 
--- src/lib.rt:323:13
 returns : tie.Need-returns Inv-loop μ-loop
 returns c = let s = c .before .before .before .before .before .before .before .args in sym (first-at (rootBad (s .ws .now) (s .roots .now)) _ _ (c .before .before .before .loop-test .taken) (rw (c .before .has-width .ensures) at (c .if1 .taken)) (c .before .before .before .before .loop .inv .1))
 
--- src/lib.rt:325:9
 add-r : tie.Need-add-r Inv-loop μ-loop
 add-r c = omega arith
 
--- src/lib.rt:321:5
 loop-less : tie.Need-loop-less Inv-loop μ-loop
 loop-less c = omega arith
 
--- src/lib.rt:321:5
 loop-again : tie.Need-loop-again Inv-loop μ-loop
 loop-again c = (omega arith, below-more _ _ (c .before .before .before .before .loop .inv .1) (rw (c .before .has-width .ensures) at (c .if1 .left)))
 
--- src/lib.rt:317:1
 returns-2 : tie.Need-returns-2 Inv-loop μ-loop
 returns-2 c = let s = c .before .before .before .before .args in sym (first-past (rootBad (s .ws .now) (s .roots .now)) _ _ (c .before .loop .inv .0) (c .loop-test .left) (c .before .loop .inv .1))
 

@@ -1,39 +1,28 @@
-use mathlib.Core.Path.{_≡_, _∙_, sym}
-use native.Mathlib.Omega.{arith}
-use borrow.Author.Tests.{eq-eqb, ne-eqb, lt-ltb, le-ltb, le-leb, lt-leb}
-use Rattle.wf.proofs.Rule.{capped-word, capped-over}
+-- `wf::select_row` meets its contract. Assumes nothing.
+use mathlib.Core.Path.{_∙_, sym}
+use borrow.Author.Tests.{eq-eqb, ne-eqb, lt-ltb, le-ltb}
 use borrow.Author.Needs.{needs}
 use Rattle.wf.proofs.select_row.Statement.{statement}
 use Rattle.wf.proofs.select_row.Tie as tie
-use Rattle.wf.proofs.select_row.Reads as reads
-use Rattle.wf.proofs.select_row.Lts as lts
-use Rattle.wf.proofs.chain_wf.Reads as chain-wf-reads
 
--- src/lib.rt:255:9
 returns : tie.Need-returns
 returns c = rw (le-ltb _ _ (c .if1 .taken))
 
--- src/lib.rt:258:8
 mul-if2 : tie.Need-mul-if2
 mul-if2 c = search needs
 
--- src/lib.rt:258:8
 shared-slice-read-if2 : tie.Need-shared-slice-read-if2
 shared-slice-read-if2 c = search needs
 
--- src/lib.rt:259:9
 returns-2 : tie.Need-returns-2
 returns-2 c = rw (lt-ltb _ _ (c .before .before .if1 .left), ne-eqb _ _ (c .if2 .taken))
 
--- src/lib.rt:261:8
 chain-wf-requires : tie.Need-chain-wf-requires
 chain-wf-requires c κs = search needs
 
--- src/lib.rt:251:1
 returns-3 : tie.Need-returns-3
 returns-3 c = rw (lt-ltb _ _ (c .before .before .before .before .if1 .left), eq-eqb _ _ (c .before .before .if2 .left), sym (c .before .chain-wf .ensures) ∙ c .if3 .taken)
 
--- src/lib.rt:251:1
 returns-4 : tie.Need-returns-4
 returns-4 c = rw (lt-ltb _ _ (c .before .before .before .before .if1 .left), eq-eqb _ _ (c .before .before .if2 .left), sym (c .before .chain-wf .ensures) ∙ c .if3 .left)
 

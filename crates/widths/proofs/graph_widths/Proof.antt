@@ -1,3 +1,4 @@
+-- `widths::graph_widths` meets its contract: each return is one law of proofs/Widths. Assumes nothing.
 use mathlib.Core.Path.{_≡_, _∙_, sym, ap}
 use native.Mathlib.Omega.{arith}
 use lib.ListN.{length}
@@ -11,55 +12,36 @@ use Rattle.widths.proofs.Widths.{widths-15, widths-17, widths-18, width
 use borrow.Author.Needs.{needs}
 use Rattle.widths.proofs.graph_widths.Statement.{statement}
 use Rattle.widths.proofs.graph_widths.Tie as tie
-use Rattle.widths.proofs.graph_widths.Reads as reads
-use Rattle.widths.proofs.graph_widths.Lts as lts
-use Rattle.lists.proofs.clear.Reads as clear-reads
-use Rattle.lists.proofs.clear_from.Reads as clear-from-reads
-use Rattle.rows.proofs.bad_bit.Reads as bad-bit-reads
-use Rattle.rows.proofs.graph_number.Reads as graph-number-reads
-use Rattle.rows.proofs.is_ragged.Reads as is-ragged-reads
-use Rattle.rows.proofs.row_count.Reads as row-count-reads
-use Rattle.wf.proofs.graph_wf.Reads as graph-wf-reads
-use Rattle.widths.proofs.refusal.Reads as refusal-reads
 
--- src/lib.rt:43:8
 is-ragged-requires : tie.Need-is-ragged-requires
 is-ragged-requires c κs = search needs
 
--- src/lib.rt:44:33
 graph-number-requires : tie.Need-graph-number-requires
 graph-number-requires c κs = search needs
 
--- src/lib.rt:44:9
 returns : tie.Need-returns
 returns c =
     let s = c .before .before .before .before .before .before .before .args in
     rw (c .graph-number .ensures) (sym (widths-15 (s .graph) (s .g .now) (s .bits .now) (s .side .now) (s .ws .now) (sym (c .before .before .is-ragged .ensures) ∙ c .before .if1 .taken)))
 
--- src/lib.rt:46:9
 row-count-requires : tie.Need-row-count-requires
 row-count-requires c κs = search needs
 
--- src/lib.rt:48:34
 graph-number-requires-2 : tie.Need-graph-number-requires-2
 graph-number-requires-2 c κs = search needs
 
--- src/lib.rt:48:9
 returns-2 : tie.Need-returns-2
 returns-2 c =
     let s = c .before .before .before .before .before .before .before .before .before .args in
     let count = c .before .before .row-count .ensures in
     rw (c .graph-number2 .ensures) (sym (widths-18 (s .graph) (s .g .now) (s .bits .now) (s .side .now) (s .ws .now) (sym (c .before .before .before .before .is-ragged .ensures) ∙ c .before .before .before .if1 .left) (rw count at (c .before .if2 .taken))))
 
--- src/lib.rt:50:9
 graph-wf-requires : tie.Need-graph-wf-requires
 graph-wf-requires c κs = search needs
 
--- src/lib.rt:52:9
 clear-requires : tie.Need-clear-requires
 clear-requires c κs = search needs
 
--- src/lib.rt:53:9
 refusal-requires : tie.Need-refusal-requires
 refusal-requires c κs =
     let s = c .before .before .before .before .before .before .before .before .before .before .before .before .before .before .before .before .before .args in
@@ -67,11 +49,9 @@ refusal-requires c κs =
     let w = c .before .before .before .before .before .before .before .graph-wf in
     (rw count at (c .before .before .before .before .if3 .taken), λ j h. stop-good (s .graph) (length (s .bits .now)) (s .side .now) (s .g .now) j (rw (w .ensures .0) at h))
 
--- src/lib.rt:53:9
 same-length : tie.Need-same-length
 same-length c = search needs
 
--- src/lib.rt:53:9
 returns-3 : tie.Need-returns-3
 returns-3 c =
     let s = c .before .before .before .before .before .before .before .before .before .before .before .before .before .before .before .before .before .before .args in
@@ -80,23 +60,18 @@ returns-3 c =
     rw (c .refusal .ensures, w .ensures .0, c .before .before .before .clear .ensures, w .kept .1 .1 .1 .1 .0)
     (sym (widths-stop (s .graph) (s .g .now) (s .bits .now) (s .side .now) (s .ws .now) (sym (c .before .before .before .before .before .before .before .before .before .before .before .before .before .is-ragged .ensures) ∙ c .before .before .before .before .before .before .before .before .before .before .before .before .if1 .left) (rw count at (c .before .before .before .before .before .before .before .before .before .before .if2 .left)) (rw (w .ensures .0, count) at (c .before .before .before .before .before .if3 .taken))))
 
--- src/lib.rt:55:9
 bad-bit-requires : tie.Need-bad-bit-requires
 bad-bit-requires c κs = search needs
 
--- src/lib.rt:57:9
 clear-requires-2 : tie.Need-clear-requires-2
 clear-requires-2 c κs = search needs
 
--- src/lib.rt:58:43
 graph-number-requires-3 : tie.Need-graph-number-requires-3
 graph-number-requires-3 c κs = search needs
 
--- src/lib.rt:58:9
 same-length-2 : tie.Need-same-length-2
 same-length-2 c = search needs
 
--- src/lib.rt:58:9
 returns-4 : tie.Need-returns-4
 returns-4 c =
     let s = c .before .before .before .before .before .before .before .before .before .before .before .before .before .before .before .before .before .before .before .before .args in
@@ -105,15 +80,12 @@ returns-4 c =
     rw (c .graph-number3 .ensures, c .before .before .before .before .before .before .bad-bit .ensures, c .before .before .before .clear2 .ensures, w .kept .1 .1 .1 .1 .0)
     (sym (widths-17 (s .graph) (s .g .now) (s .bits .now) (s .side .now) (s .ws .now) (sym (c .before .before .before .before .before .before .before .before .before .before .before .before .before .before .before .is-ragged .ensures) ∙ c .before .before .before .before .before .before .before .before .before .before .before .before .before .before .if1 .left) (rw count at (c .before .before .before .before .before .before .before .before .before .before .before .before .if2 .left)) (rw (w .ensures .0, count) at (c .before .before .before .before .before .before .before .if3 .left)) (rw (c .before .before .before .before .before .before .bad-bit .ensures) at (c .before .before .before .before .before .if4 .taken))))
 
--- src/lib.rt:60:5
 clear-from-requires : tie.Need-clear-from-requires
 clear-from-requires c κs = search needs
 
--- src/lib.rt:40:1
 same-length-3 : tie.Need-same-length-3
 same-length-3 c = search needs
 
--- src/lib.rt:40:1
 returns-5 : tie.Need-returns-5
 returns-5 c =
     let s = c .before .before .before .before .before .before .before .before .before .before .before .before .before .before .before .before .before .before .before .args in

@@ -1,20 +1,15 @@
+-- `widths::roots` meets its contract. Assumes nothing.
 use borrow.Author.Tests.{lt-ltb, le-ltb}
 use borrow.Author.Needs.{needs}
 use Rattle.widths.proofs.roots.Statement.{statement}
 use Rattle.widths.proofs.roots.Tie as tie
-use Rattle.widths.proofs.roots.Reads as reads
-use Rattle.widths.proofs.roots.Lts as lts
-use Rattle.wf.proofs.roots_wf.Reads as roots-wf-reads
 
--- src/lib.rt:63:9
 roots-wf-requires : tie.Need-roots-wf-requires
 roots-wf-requires c κs = search needs
 
--- src/lib.rt:60:1
 returns : tie.Need-returns
 returns c = rw (c .before .roots-wf .ensures, lt-ltb _ _ (rw (c .before .roots-wf .ensures) at (c .if1 .taken)))
 
--- src/lib.rt:60:1
 returns-2 : tie.Need-returns-2
 returns-2 c = rw (le-ltb _ _ (rw (c .before .roots-wf .ensures) at (c .if1 .left)))
 
