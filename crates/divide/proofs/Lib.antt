@@ -1,0 +1,6 @@
+pub mod Fits
+pub mod Signs
+pub mod Modulo
+pub mod Laws
+pub mod Machine
+pub mod Examples
