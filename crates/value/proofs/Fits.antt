@@ -12,21 +12,22 @@ use Rattle.arith.proofs.Fits.{add-fits, sub-fits, neg-fits, mul-fits, ite-fits,
 use Rattle.bitwise.proofs.Fits.{not-fits, and-fits, or-fits, xor-fits, shl-fits, lshr-fits, ashr-fits, rotr-fits, rotl-fits}
 use Rattle.divide.proofs.Fits.{udiv-fits, urem-fits, sdiv-fits, srem-fits}
 use Rattle.wf.specs.Rule.{same}
-use Rattle.value.specs.Val.{Val, val, wid, nat, arg, Fit}
-use Rattle.value.specs.Operate.{numbers, opNumber, opWidth, operate}
+use Rattle.value.specs.Val.{Val, wid, nat, arg, Fit}
+use Rattle.value.specs.Operate.{numbers, opWidth, operate}
 
 -- something of each entry of a list and its place, counted from i
+data Every {A : Type 0} (P : ℕ → A → Type 0) : ℕ → List A → Type 0 where
+  end : {i : ℕ} → Every P i []
+  _⨾_ : {i : ℕ} {x : A} {xs : List A} → P i x → Every P (suc i) xs → Every P i (x ∷ xs)
+
+infixr 3 _⨾_
 module _ {A : Type 0} (P : ℕ → A → Type 0) where
-  abbrev Every : ℕ → List A → Type 0
-  Every i [] = Unit {0}
-  Every i (x ∷ xs) = P i x × Every (suc i) xs
+  every-from : (d : A) (xs : List A) (i : ℕ) → Every P i xs → (k : ℕ) → k < length xs → P (i + k) (getD xs k d)
+  every-from d [] i end k h = absurd (not-suc-le-zero h)
+  every-from d (x ∷ xs) i (e ⨾ es) zero h = rw add-zero e
+  every-from d (x ∷ xs) i (e ⨾ es) (suc k) h = rw (add-suc, ← suc-add) (every-from d xs (suc i) es k (le-of-suc-le-suc h))
 
-  every-from : (d : A) (xs : List A) (i : ℕ) → Every i xs → (k : ℕ) → k < length xs → P (i + k) (getD xs k d)
-  every-from d [] i e k h = absurd (not-suc-le-zero h)
-  every-from d (x ∷ xs) i e zero h = rw add-zero (e .0)
-  every-from d (x ∷ xs) i e (suc k) h = rw (add-suc, ← suc-add) (every-from d xs (suc i) (e .1) k (le-of-suc-le-suc h))
-
-  every-at : (d : A) (xs : List A) → Every 0 xs → (k : ℕ) → k < length xs → P k (getD xs k d)
+  every-at : (d : A) (xs : List A) → Every P 0 xs → (k : ℕ) → k < length xs → P k (getD xs k d)
   every-at d xs e k h = rw zero-add at (every-from d xs 0 e k h)
 
 -- a choice above 0 whose other branch is 0 is the first branch
@@ -90,118 +91,45 @@ OpFits t f =
 
 lines : Every OpFits 0 numbers
 unfolding OpFits
-lines = (
-  λ ps vs fit c z h. absurd (z refl),
-  (
-    λ ps vs fit c z h. c refl,
-    (
-      λ ps vs fit c z h. word vs fit _ (λ w a b p x y. add-fits w a b) h,
-      (
-        λ ps vs fit c z h. word vs fit _ (λ w a b p x y. sub-fits w a b) h,
-        (
-          λ ps vs fit c z h. word vs fit _ (λ w a b p x y. mul-fits w a b) h,
-          (
-            λ ps vs fit c z h. word vs fit _ (λ w a b p x y. udiv-fits w a b x) h,
-            (
-              λ ps vs fit c z h. word vs fit _ (λ w a b p x y. urem-fits w a b x) h,
-              (
-                λ ps vs fit c z h. word vs fit _ (λ w a b p x y. and-fits w a b) h,
-                (
-                  λ ps vs fit c z h. word vs fit _ (λ w a b p x y. or-fits w a b) h,
-                  (
-                    λ ps vs fit c z h. word vs fit _ (λ w a b p x y. xor-fits w a b) h,
-                    (
-                      λ ps vs fit c z h. word vs fit _ (λ w a b p x y. shl-fits w a b) h,
-                      (
-                        λ ps vs fit c z h. word vs fit _ (λ w a b p x y. lshr-fits w a b x) h,
-                        (
-                          λ ps vs fit c z h. word vs fit _ (λ w a b p x y. ashr-fits w a b x) h,
-                          (
-                            λ ps vs fit c z h. word vs fit _ (λ w a b p x y. rotr-fits w a b p x) h,
-                            (
-                              λ ps vs fit c z h. part vs fit (getD ps 0 0) (getD ps 1 0) h _ (extract-fits (getD ps 0 0) (getD ps 1 0) (nat (arg vs 0))),
-                              (
-                                λ ps vs fit c z h. concat-fits (wid (arg vs 0)) (wid (arg vs 1)) (nat (arg vs 0)) (nat (arg vs 1)) (fit 0) (fit 1),
-                                (
-                                  λ ps vs fit c z h. zero-extend-fits (wid (arg vs 0)) (getD ps 0 0) (nat (arg vs 0)) (fit 0),
-                                  (
-                                    λ ps vs fit c z h. sign-extend-fits (wid (arg vs 0)) (getD ps 0 0) (nat (arg vs 0)) (fit 0),
-                                    (
-                                      λ ps vs fit c z h. choice vs fit (nat (arg vs 0)) h,
-                                      (
-                                        λ ps vs fit c z h. compare vs fit _ (equal-fits (nat (arg vs 0)) (nat (arg vs 1))) h,
-                                        (
-                                          λ ps vs fit c z h. compare vs fit _ (distinct-fits (nat (arg vs 0)) (nat (arg vs 1))) h,
-                                          (
-                                            λ ps vs fit c z h. compare vs fit _ (ult-fits (nat (arg vs 0)) (nat (arg vs 1))) h,
-                                            (
-                                              λ ps vs fit c z h. compare vs fit _ (ule-fits (nat (arg vs 0)) (nat (arg vs 1))) h,
-                                              (
-                                                λ ps vs fit c z h. compare vs fit _ (ugt-fits (nat (arg vs 0)) (nat (arg vs 1))) h,
-                                                (
-                                                  λ ps vs fit c z h. compare vs fit _ (uge-fits (nat (arg vs 0)) (nat (arg vs 1))) h,
-                                                  (
-                                                    λ ps vs fit c z h. compare vs fit _ (slt-fits (wid (arg vs 0)) (nat (arg vs 0)) (nat (arg vs 1))) h,
-                                                    (
-                                                      λ ps vs fit c z h. compare vs fit _ (sle-fits (wid (arg vs 0)) (nat (arg vs 0)) (nat (arg vs 1))) h,
-                                                      (
-                                                        λ ps vs fit c z h. compare vs fit _ (sgt-fits (wid (arg vs 0)) (nat (arg vs 0)) (nat (arg vs 1))) h,
-                                                        (
-                                                          λ ps vs fit c z h. compare vs fit _ (sge-fits (wid (arg vs 0)) (nat (arg vs 0)) (nat (arg vs 1))) h,
-                                                          (
-                                                            λ ps vs fit c z h. one vs fit _ not-fits h,
-                                                            (
-                                                              λ ps vs fit c z h. bool vs fit _ and-fits h,
-                                                              (
-                                                                λ ps vs fit c z h. bool vs fit _ or-fits h,
-                                                                (
-                                                                  λ ps vs fit c z h. not-fits (wid (arg vs 0)) (nat (arg vs 0)),
-                                                                  (
-                                                                    λ ps vs fit c z h. neg-fits (wid (arg vs 0)) (nat (arg vs 0)),
-                                                                    (
-                                                                      λ ps vs fit c z h. word vs fit _ (λ w a b p x y. rotl-fits w a b p x) h,
-                                                                      (
-                                                                        λ ps vs fit c z h. word vs fit _ (λ w a b p x y. sdiv-fits w a b x) h,
-                                                                        (
-                                                                          λ ps vs fit c z h. word vs fit _ (λ w a b p x y. srem-fits w a b x) h,
-                                                                          tt,
-                                                                        ),
-                                                                      ),
-                                                                    ),
-                                                                  ),
-                                                                ),
-                                                              ),
-                                                            ),
-                                                          ),
-                                                        ),
-                                                      ),
-                                                    ),
-                                                  ),
-                                                ),
-                                              ),
-                                            ),
-                                          ),
-                                        ),
-                                      ),
-                                    ),
-                                  ),
-                                ),
-                              ),
-                            ),
-                          ),
-                        ),
-                      ),
-                    ),
-                  ),
-                ),
-              ),
-            ),
-          ),
-        ),
-      ),
-    ),
-  ),
-)
+lines =
+    (λ ps vs fit c z h. absurd (z refl))
+    ⨾ (λ ps vs fit c z h. c refl)
+    ⨾ (λ ps vs fit c z h. word vs fit _ (λ w a b p x y. add-fits w a b) h)
+    ⨾ (λ ps vs fit c z h. word vs fit _ (λ w a b p x y. sub-fits w a b) h)
+    ⨾ (λ ps vs fit c z h. word vs fit _ (λ w a b p x y. mul-fits w a b) h)
+    ⨾ (λ ps vs fit c z h. word vs fit _ (λ w a b p x y. udiv-fits w a b x) h)
+    ⨾ (λ ps vs fit c z h. word vs fit _ (λ w a b p x y. urem-fits w a b x) h)
+    ⨾ (λ ps vs fit c z h. word vs fit _ (λ w a b p x y. and-fits w a b) h)
+    ⨾ (λ ps vs fit c z h. word vs fit _ (λ w a b p x y. or-fits w a b) h)
+    ⨾ (λ ps vs fit c z h. word vs fit _ (λ w a b p x y. xor-fits w a b) h)
+    ⨾ (λ ps vs fit c z h. word vs fit _ (λ w a b p x y. shl-fits w a b) h)
+    ⨾ (λ ps vs fit c z h. word vs fit _ (λ w a b p x y. lshr-fits w a b x) h)
+    ⨾ (λ ps vs fit c z h. word vs fit _ (λ w a b p x y. ashr-fits w a b x) h)
+    ⨾ (λ ps vs fit c z h. word vs fit _ (λ w a b p x y. rotr-fits w a b p x) h)
+    ⨾ (λ ps vs fit c z h. part vs fit (getD ps 0 0) (getD ps 1 0) h _ (extract-fits (getD ps 0 0) (getD ps 1 0) (nat (arg vs 0))))
+    ⨾ (λ ps vs fit c z h. concat-fits (wid (arg vs 0)) (wid (arg vs 1)) (nat (arg vs 0)) (nat (arg vs 1)) (fit 0) (fit 1))
+    ⨾ (λ ps vs fit c z h. zero-extend-fits (wid (arg vs 0)) (getD ps 0 0) (nat (arg vs 0)) (fit 0))
+    ⨾ (λ ps vs fit c z h. sign-extend-fits (wid (arg vs 0)) (getD ps 0 0) (nat (arg vs 0)) (fit 0))
+    ⨾ (λ ps vs fit c z h. choice vs fit (nat (arg vs 0)) h)
+    ⨾ (λ ps vs fit c z h. compare vs fit _ (equal-fits (nat (arg vs 0)) (nat (arg vs 1))) h)
+    ⨾ (λ ps vs fit c z h. compare vs fit _ (distinct-fits (nat (arg vs 0)) (nat (arg vs 1))) h)
+    ⨾ (λ ps vs fit c z h. compare vs fit _ (ult-fits (nat (arg vs 0)) (nat (arg vs 1))) h)
+    ⨾ (λ ps vs fit c z h. compare vs fit _ (ule-fits (nat (arg vs 0)) (nat (arg vs 1))) h)
+    ⨾ (λ ps vs fit c z h. compare vs fit _ (ugt-fits (nat (arg vs 0)) (nat (arg vs 1))) h)
+    ⨾ (λ ps vs fit c z h. compare vs fit _ (uge-fits (nat (arg vs 0)) (nat (arg vs 1))) h)
+    ⨾ (λ ps vs fit c z h. compare vs fit _ (slt-fits (wid (arg vs 0)) (nat (arg vs 0)) (nat (arg vs 1))) h)
+    ⨾ (λ ps vs fit c z h. compare vs fit _ (sle-fits (wid (arg vs 0)) (nat (arg vs 0)) (nat (arg vs 1))) h)
+    ⨾ (λ ps vs fit c z h. compare vs fit _ (sgt-fits (wid (arg vs 0)) (nat (arg vs 0)) (nat (arg vs 1))) h)
+    ⨾ (λ ps vs fit c z h. compare vs fit _ (sge-fits (wid (arg vs 0)) (nat (arg vs 0)) (nat (arg vs 1))) h)
+    ⨾ (λ ps vs fit c z h. one vs fit _ not-fits h)
+    ⨾ (λ ps vs fit c z h. bool vs fit _ and-fits h)
+    ⨾ (λ ps vs fit c z h. bool vs fit _ or-fits h)
+    ⨾ (λ ps vs fit c z h. not-fits (wid (arg vs 0)) (nat (arg vs 0)))
+    ⨾ (λ ps vs fit c z h. neg-fits (wid (arg vs 0)) (nat (arg vs 0)))
+    ⨾ (λ ps vs fit c z h. word vs fit _ (λ w a b p x y. rotl-fits w a b p x) h)
+    ⨾ (λ ps vs fit c z h. word vs fit _ (λ w a b p x y. sdiv-fits w a b x) h)
+    ⨾ (λ ps vs fit c z h. word vs fit _ (λ w a b p x y. srem-fits w a b x) h)
+    ⨾ end
 
 -- a core operator on fitting operands, where the rules give a width, gives a fitting value
 pub operate-fits : (t : ℕ) → 0 < t → t < 37 → (ps : List ℕ) (vs : List Val) → ((j : ℕ) → Fit (arg vs j))
