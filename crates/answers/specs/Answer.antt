@@ -1,9 +1,11 @@
 -- Answers as numbers, and what each leaves in a lent list (01, 'Operations and what they refuse'). Assumes nothing.
 use Prim.Native.Nat.{ℕ, _-_}
+use mathlib.Core.Bool.{Bool, cond}
 use mathlib.Core.List.{List, _++_}
+use lib.Dec.{eqb}
 use lib.ListN.{length, replicate}
 use Rattle.answers.specs.declared.Answer.{Answer}
-use Rattle.answers.specs.declared.Answer.the-variants.{Accepted, Ext, Core, RowCount, BadRow, BadBit, WorkShort, BadRoot}
+use Rattle.answers.specs.declared.Answer.the-variants.{Accepted, Ext, Core, RowCount, BadRow, BadBit, WorkShort, BadRoot, TooWide, ValueCount, ValueRange}
 use Rattle.answers.specs.declared.Words.{Words}
 
 abbrev pub words : ℕ → ℕ → ℕ → Words
@@ -19,6 +21,16 @@ wordsOf (BadRow row graph) = words 16 row graph
 wordsOf (BadBit position graph) = words 17 position graph
 wordsOf (WorkShort list) = words 18 list 0
 wordsOf (BadRoot position) = words 19 position 0
+wordsOf (TooWide row) = words 21 row 0
+wordsOf (ValueCount expected found) = words 22 expected found
+wordsOf (ValueRange row) = words 23 row 0
+
+abbrev pub isAccepted : Answer → Bool
+isAccepted a = eqb (wordsOf a .number) 0
+
+-- what is looked for after what an answer looked for: the first refusal counts
+abbrev pub andThen : Answer → Answer → Answer
+andThen a next = cond (isAccepted a) next a
 
 -- "15 and 18 write nothing; any other refusal zeroes all .. lists. Acceptance leaves [the list's contents], zeros after the last row":
 -- what a lent list holds afterwards, by the answer, what it held and what acceptance writes
@@ -31,3 +43,6 @@ lent (BadRow row graph) old new = replicate (length old) 0
 lent (BadBit position graph) old new = replicate (length old) 0
 lent (WorkShort list) old new = old
 lent (BadRoot position) old new = replicate (length old) 0
+lent (TooWide row) old new = replicate (length old) 0
+lent (ValueCount expected found) old new = replicate (length old) 0
+lent (ValueRange row) old new = replicate (length old) 0

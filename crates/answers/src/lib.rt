@@ -1,6 +1,6 @@
 // The answers of the operations, and their numbers.
 ghost use mathlib.Core.Path.{_≡_};
-ghost use Rattle.answers.specs.Answer.{wordsOf};
+ghost use Rattle.answers.specs.Answer.{wordsOf, isAccepted};
 
 // What an operation answers: acceptance or the refusal, with the values that it names.
 pub enum Answer {
@@ -19,6 +19,12 @@ pub enum Answer {
     WorkShort(u64),
     // position in the root list
     BadRoot(u64),
+    // row wider than 64 bits
+    TooWide(u64),
+    // words expected, words found
+    ValueCount(u64, u64),
+    // row of a variable
+    ValueRange(u64),
 }
 
 // An answer as three words.
@@ -73,5 +79,27 @@ pub fn words_of(a: Answer) -> Words
             place: position,
             detail: 0,
         },
+        Answer::TooWide(row) => Words {
+            number: 21,
+            place: row,
+            detail: 0,
+        },
+        Answer::ValueCount(expected, found) => Words {
+            number: 22,
+            place: expected,
+            detail: found,
+        },
+        Answer::ValueRange(row) => Words {
+            number: 23,
+            place: row,
+            detail: 0,
+        },
     }
+}
+
+pub fn is_accepted(a: Answer) -> bool
+    ensures test { λ r. ⌜ r ≡ isAccepted a ⌝ }
+{
+    let w = words_of(a);
+    w.number == 0
 }

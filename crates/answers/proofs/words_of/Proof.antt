@@ -27,6 +27,15 @@ enum-known-a-6 c = search needs
 enum-known-a-7 : tie.Need-enum-known-a-7
 enum-known-a-7 c = search needs
 
+enum-known-a-8 : tie.Need-enum-known-a-8
+enum-known-a-8 c = search needs
+
+enum-known-a-9 : tie.Need-enum-known-a-9
+enum-known-a-9 c = search needs
+
+enum-known-a-10 : tie.Need-enum-known-a-10
+enum-known-a-10 c = search needs
+
 returns : tie.Need-returns
 returns c = rw (c .enum-told .given .1)
 
@@ -51,6 +60,15 @@ returns-7 c = rw (c .before .a6 .given .1)
 returns-8 : tie.Need-returns-8
 returns-8 c = rw (c .before .a7 .given .1)
 
+returns-9 : tie.Need-returns-9
+returns-9 c = rw (c .before .a8 .given .1)
+
+returns-10 : tie.Need-returns-10
+returns-10 c = rw (c .before .a9 .given .1)
+
+returns-11 : tie.Need-returns-11
+returns-11 c = rw (c .before .a10 .given .1)
+
 pub words-of-spec : {M : Type 1} → statement M
 words-of-spec =
     tie.close
@@ -63,6 +81,9 @@ words-of-spec =
     enum-known-a-5
     enum-known-a-6
     enum-known-a-7
+    enum-known-a-8
+    enum-known-a-9
+    enum-known-a-10
     returns
     returns-2
     returns-3
@@ -70,4 +91,7 @@ words-of-spec =
     returns-5
     returns-6
     returns-7
-    returns-8)
+    returns-8
+    returns-9
+    returns-10
+    returns-11)
