@@ -27,7 +27,7 @@ use Rattle.value.specs.Graph.{coreValue, nodeValue, rowValue, valuesTo, 
 use Rattle.value.proofs.Fits.{operate-fits}
 
 -- a number that passes a test is not one that fails it
-apart : (p : ℕ → Bool) (k t : ℕ) → p k ≡ false → p t ≡ true → eqb t k ≡ false
+pub apart : (p : ℕ → Bool) (k t : ℕ) → p k ≡ false → p t ≡ true → eqb t k ≡ false
 apart p k t f h = ne-eqb t k (λ e. let g : p k ≡ true = rw e at h in let z : _≡_ {A = ℕ} 0 1 = cc in omega arith)
 
 extend-no-un : (t : ℕ) → isExtend t ≡ true → isUn t ≡ false

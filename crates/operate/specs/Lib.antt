@@ -1,0 +1,2 @@
+-- What the dispatch asks for and answers. Assumes nothing.
+pub mod Ready

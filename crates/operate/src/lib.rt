@@ -1,0 +1,185 @@
+// The number of an operator on numbers of width 1 to 64: from a tag to its function, in stretches of tags.
+ghost use mathlib.Core.Path.{_≡_};
+ghost use mathlib.Core.Bool.{true};
+ghost use mathlib.Core.List.{[], _∷_};
+ghost use Prim.Native.Nat.{ℕ, _<_, _≤_, _+_, _^_};
+ghost use lib.ListN.{length, getD};
+ghost use Rattle.rows.specs.Tags.{isUn, isExtend, tConcat};
+ghost use Rattle.rows.specs.Node.{BinTag};
+ghost use Rattle.value.specs.Val.{val};
+ghost use Rattle.value.specs.Operate.{opNumber, constNumber};
+ghost use Rattle.operate.specs.Ready.{BinReady, Words, evenNumber};
+
+// ---- one operand
+// Not 29, BvNot 32, Neg 33.
+pub fn un_value(t: u64, w: u64, a: u64) -> u64
+    requires { ⌜ (isUn t ≡ true) × (0 < w) × (w ≤ 64) × (a < 2 ^ w) ⌝ }
+    ensures value { λ r. ⌜ r ≡ opNumber t [] (val w a ∷ []) ⌝ }
+{
+    match t {
+        29 => bitwise::bv_not(w, a),
+        32 => bitwise::bv_not(w, a),
+        _ => arith::bv_neg(w, a),
+    }
+}
+
+// ZeroExt 16, SignExt 17, by n.
+pub fn extend_value(t: u64, w: u64, n: u64, a: u64) -> u64
+    requires { ⌜ (isExtend t ≡ true) × (0 < w) × (w + n ≤ 64) × (a < 2 ^ w) ⌝ }
+    ensures value { λ r. ⌜ r ≡ opNumber t (n ∷ []) (val w a ∷ []) ⌝ }
+{
+    match t {
+        16 => arith::bv_zero_extend(w, a),
+        _ => arith::bv_sign_extend(w, n, a),
+    }
+}
+
+// ---- two operands of one width
+// Add 2, Sub 3, Mul 4, Udiv 5, Urem 6.
+fn sums(t: u64, w: u64, a: u64, b: u64) -> u64
+    requires { ⌜ (1 < t) × (t < 7) × Words w a b ⌝ }
+    ensures value { λ r. ⌜ r ≡ evenNumber t w a b ⌝ }
+{
+    match t {
+        2 => arith::bv_add(w, a, b),
+        3 => arith::bv_sub(w, a, b),
+        4 => arith::bv_mul(w, a, b),
+        5 => divide::bv_udiv(w, a, b),
+        _ => divide::bv_urem(w, a, b),
+    }
+}
+
+// And 7, Or 8, Xor 9.
+fn logic(t: u64, w: u64, a: u64, b: u64) -> u64
+    requires { ⌜ (6 < t) × (t < 10) × Words w a b ⌝ }
+    ensures value { λ r. ⌜ r ≡ evenNumber t w a b ⌝ }
+{
+    match t {
+        7 => bitwise::bv_and(w, a, b),
+        8 => bitwise::bv_or(w, a, b),
+        _ => bitwise::bv_xor(w, a, b),
+    }
+}
+
+// Shl 10, Lshr 11, Ashr 12, Rotr 13.
+fn shifts(t: u64, w: u64, a: u64, b: u64) -> u64
+    requires { ⌜ (9 < t) × (t < 14) × Words w a b ⌝ }
+    ensures value { λ r. ⌜ r ≡ evenNumber t w a b ⌝ }
+{
+    match t {
+        10 => bitwise::bv_shl(w, a, b),
+        11 => bitwise::bv_lshr(w, a, b),
+        12 => bitwise::bv_ashr(w, a, b),
+        _ => bitwise::bv_rotr(w, a, b),
+    }
+}
+
+// Eq 19, Ne 20, Ult 21, Ule 22, Ugt 23, Uge 24.
+fn compares(t: u64, w: u64, a: u64, b: u64) -> u64
+    requires { ⌜ (18 < t) × (t < 25) ⌝ }
+    ensures value { λ r. ⌜ r ≡ evenNumber t w a b ⌝ }
+{
+    match t {
+        19 => arith::bv_equal(a, b),
+        20 => arith::bv_distinct(a, b),
+        21 => arith::bv_ult(a, b),
+        22 => arith::bv_ule(a, b),
+        23 => arith::bv_ugt(a, b),
+        _ => arith::bv_uge(a, b),
+    }
+}
+
+// Slt 25, Sle 26, Sgt 27, Sge 28.
+fn signed_compares(t: u64, w: u64, a: u64, b: u64) -> u64
+    requires { ⌜ (24 < t) × (t < 29) × Words w a b ⌝ }
+    ensures value { λ r. ⌜ r ≡ evenNumber t w a b ⌝ }
+{
+    match t {
+        25 => arith::bv_slt(w, a, b),
+        26 => arith::bv_sle(w, a, b),
+        27 => arith::bv_sgt(w, a, b),
+        _ => arith::bv_sge(w, a, b),
+    }
+}
+
+// BoolAnd 30, BoolOr 31.
+fn bools(t: u64, w: u64, a: u64, b: u64) -> u64
+    requires { ⌜ (29 < t) × (t < 32) × Words w a b ⌝ }
+    ensures value { λ r. ⌜ r ≡ evenNumber t w a b ⌝ }
+{
+    match t {
+        30 => bitwise::bv_and(w, a, b),
+        _ => bitwise::bv_or(w, a, b),
+    }
+}
+
+// Rotl 34, Sdiv 35, Srem 36.
+fn others(t: u64, w: u64, a: u64, b: u64) -> u64
+    requires { ⌜ (33 < t) × (t < 37) × Words w a b ⌝ }
+    ensures value { λ r. ⌜ r ≡ evenNumber t w a b ⌝ }
+{
+    match t {
+        34 => bitwise::bv_rotl(w, a, b),
+        35 => divide::bv_sdiv(w, a, b),
+        _ => divide::bv_srem(w, a, b),
+    }
+}
+
+// The stretch of a tag other than Concat.
+fn even_value(t: u64, w: u64, a: u64, b: u64) -> u64
+    requires { ⌜ BinTag t × (t ≡ tConcat → ⊥) × Words w a b ⌝ }
+    ensures value { λ r. ⌜ r ≡ evenNumber t w a b ⌝ }
+{
+    if t < 7 {
+        return sums(t, w, a, b);
+    }
+    if t < 10 {
+        return logic(t, w, a, b);
+    }
+    if t < 14 {
+        return shifts(t, w, a, b);
+    }
+    if t < 25 {
+        return compares(t, w, a, b);
+    }
+    if t < 29 {
+        return signed_compares(t, w, a, b);
+    }
+    if t < 32 {
+        return bools(t, w, a, b);
+    }
+    others(t, w, a, b)
+}
+
+// ---- two operands
+// The widths are equal but for Concat 15, where their sum is at most 64.
+pub fn bin_value(t: u64, u: u64, a: u64, v: u64, b: u64) -> u64
+    requires { ⌜ BinReady t u a v b ⌝ }
+    ensures value { λ r. ⌜ r ≡ opNumber t [] (val u a ∷ val v b ∷ []) ⌝ }
+{
+    if t == 15 {
+        return arith::bv_concat(v, a, b);
+    }
+    even_value(t, u, a, b)
+}
+
+// ---- constants
+fn wide(x: u8) -> u64
+    ensures value { λ r. ⌜ r ≡ x ⌝ }
+{
+    x as u64
+}
+
+// From the highest bit down; the list has the lowest first.
+pub fn const_value(bits: &[u8], s: usize, w: usize) -> u64
+    requires { ⌜ (s + w ≤ length (now bits)) × (w ≤ 64) × ((k : ℕ) → getD (now bits) k 0 < 2) ⌝ }
+    ensures value { λ r. ⌜ r ≡ constNumber (now (bits .entry)) s w ⌝ }
+{
+    let mut k = w;
+    let mut v = 0;
+    while 0 < k {
+        k -= 1;
+        v = 2 * v + wide(bits[s + k]);
+    }
+    v
+}
