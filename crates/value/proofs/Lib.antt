@@ -1,3 +1,4 @@
 pub mod Fits
 pub mod Formed
+pub mod Tagged
 pub mod Examples

@@ -1,1 +1,4 @@
+pub mod Outcome
+pub mod Given
+pub mod Steps
 pub mod Examples

@@ -6,7 +6,7 @@ ghost use lib.Dec.{eqb, ltb};
 ghost use lib.ListN.{length, getD};
 ghost use Rattle.rows.specs.declared.Graph.{Graph};
 ghost use Rattle.rows.specs.Row.{rowCount};
-ghost use Rattle.values.specs.Values.{wideRow, badWord, givenAnswer};
+ghost use Rattle.values.specs.Values.{wideRow, badWord, givenAnswer, out, values};
 use answers::Answer;
 use rows::Graph;
 
@@ -66,5 +66,35 @@ fn given_answer(g: &[u64], given: &[u64], ws: &[u64]) -> Answer
     if bad < n {
         return Answer::ValueRange(bad as u64);
     }
+    Answer::Accepted
+}
+
+// The numbers of a target's rows under the words given for its variables, with its widths, or the first refusal by 01's order.
+pub fn values(target: &[u64], bits: &[u8], given: &[u64], ws: &mut [u64], vs: &mut [u64]) -> Answer
+    ensures outcome { λ r. ⌜ out r (now (ws .exit)) (now (vs .exit)) ≡ values (now (target .entry)) (now (bits .entry)) (now (given .entry)) (now (ws .entry)) (now (vs .entry)) ⌝ }
+{
+    if rows::is_ragged(Graph::Target, target) {
+        return Answer::RowCount(2);
+    }
+    let n = rows::row_count(Graph::Target, target);
+    if ws.len() < n {
+        return Answer::WorkShort(1);
+    }
+    if vs.len() < n {
+        return Answer::WorkShort(2);
+    }
+    let a = widths::target_widths(target, bits, ws);
+    if !answers::is_accepted(a) {
+        lists::clear(vs);
+        return a;
+    }
+    let b = given_answer(target, given, &ws[..n]);
+    if !answers::is_accepted(b) {
+        lists::clear(ws);
+        lists::clear(vs);
+        return b;
+    }
+    evaluate::evaluate(target, bits, given, &ws[..n], vs);
+    lists::clear_from(vs, n);
     Answer::Accepted
 }

@@ -1,0 +1,62 @@
+-- What the widths operation and the evaluation leave, for the operation above them. Assumes nothing.
+use Prim.Native.Nat.{ℕ, _-_, _≤_}
+use mathlib.Core.Path.{_≡_, refl, sym, ap, _∙_}
+use mathlib.Core.Bool.{Bool, true, false, cond}
+use mathlib.Core.List.{List, [], _++_}
+use borrow.Author.Tests.{le-ltb}
+use lib.Dec.{ltb}
+use lib.ListN.{length, replicate, take, drop}
+use Rattle.answers.specs.declared.Answer.{Answer}
+use Rattle.answers.specs.declared.Answer.the-variants.{Accepted, Core, BadRow, BadBit}
+use Rattle.answers.specs.Answer.{lent, isAccepted}
+use Rattle.evaluate.specs.Ready.{numbersTo}
+use Rattle.evaluate.proofs.Rows.{numbers-front}
+use Rattle.lists.proofs.Build.{build-length, build-front}
+use Rattle.rows.specs.declared.Graph.the-variants.{Target}
+use Rattle.rows.specs.Row.{rowCount, ragged}
+use Rattle.rows.specs.Encoding.{badRow, badBit}
+use Rattle.wf.specs.Widths.{illRow, widths, rowWidth}
+use Rattle.widths.specs.Widths.{Out, out, rowsAnswer, targetWidths}
+use Rattle.values.specs.Values.{numbersOf}
+use Rattle.values.proofs.Outcome.{rows-zero, no-way}
+
+rows-yes : (p q r : Bool) (a b d row : ℕ) → isAccepted (cond p (BadRow a d) (cond q (BadBit b d) (cond r (Core row) Accepted))) ≡ true
+    → cond p (BadRow a d) (cond q (BadBit b d) (cond r (Core row) Accepted)) ≡ Accepted
+rows-yes true q r a b d row e = no-way (sym e)
+rows-yes false true r a b d row e = no-way (sym e)
+rows-yes false false true a b d row e = no-way (sym e)
+rows-yes false false false a b d row e = refl
+
+-- the widths operation on a whole target with room: its answer and its list
+module _ (g bits ws : List ℕ) (a : Answer) (l : List ℕ) (done : out a l ≡ targetWidths g bits ws) (whole : ragged Target g ≡ false)
+    (room : rowCount Target g ≤ length ws) where
+  pub widths-answer : a ≡ rowsAnswer Target g bits (illRow Target (length bits) [] g)
+  widths-answer = ap (λ (o : Out). o .answer) done ∙ rw (whole, le-ltb _ _ room)
+
+  widths-list : l ≡ lent (rowsAnswer Target g bits (illRow Target (length bits) [] g)) ws (widths Target (length bits) [] g)
+  widths-list = ap (λ (o : Out). o .list) done ∙ rw (whole, le-ltb _ _ room)
+
+  pub widths-refused : isAccepted (rowsAnswer Target g bits (illRow Target (length bits) [] g)) ≡ false → l ≡ replicate (length ws) 0
+  widths-refused e =
+      widths-list
+      ∙ rows-zero (ltb (badRow Target g) (rowCount Target g)) (ltb (badBit bits) (length bits)) (ltb (illRow Target (length bits) [] g) (rowCount Target g))
+      (badRow Target g) (badBit bits) 2 (illRow Target (length bits) [] g) ws _ e
+
+  pub widths-accepted : isAccepted (rowsAnswer Target g bits (illRow Target (length bits) [] g)) ≡ true
+      → l ≡ widths Target (length bits) [] g ++ replicate (length ws - rowCount Target g) 0
+  widths-accepted e =
+      widths-list
+      ∙ ap (λ (x : Answer). lent x ws (widths Target (length bits) [] g))
+      (rows-yes (ltb (badRow Target g) (rowCount Target g)) (ltb (badBit bits) (length bits)) (ltb (illRow Target (length bits) [] g) (rowCount Target g)) (badRow Target g) (badBit bits) 2 (illRow Target (length bits) [] g) e)
+      ∙ ap (λ (n : ℕ). widths Target (length bits) [] g ++ replicate (length ws - n) 0) (build-length (rowWidth Target (length bits) [] g) (rowCount Target g))
+
+  pub widths-front : isAccepted (rowsAnswer Target g bits (illRow Target (length bits) [] g)) ≡ true
+      → (n : ℕ) → n ≡ rowCount Target g → take n l ≡ widths Target (length bits) [] g
+  widths-front e n c = rw (c, widths-accepted e) (build-front (rowWidth Target (length bits) [] g) (rowCount Target g) _)
+
+-- the evaluated list with zeros from row n on
+pub values-list : (g bits given vs l : List ℕ) (n m : ℕ) → n ≡ rowCount Target g → m ≡ rowCount Target g → length l ≡ length vs
+    → l ≡ numbersTo g bits given m ++ drop m vs
+    → take n l ++ replicate (length l - n) 0 ≡ numbersOf g bits given (rowCount Target g) ++ replicate (length vs - rowCount Target g) 0
+values-list g bits given vs l n m en em el e =
+    rw (el, e, em, en) (ap (λ (z : List ℕ). z ++ replicate (length vs - rowCount Target g) 0) (numbers-front g bits given (rowCount Target g) _))
