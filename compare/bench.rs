@@ -4,12 +4,15 @@
 use std::hint::black_box;
 use std::time::Instant;
 
+use kernel::blast_kernel::DagNode;
 use kernel::sliver_kernel::ext_wf;
 use kernel::{dag_wf, roots_wf};
 
 use crate::graphs::{Builder, Style};
+use crate::operands;
 use crate::operation::Lists;
 use crate::ours;
+use crate::plain;
 use crate::random::Random;
 use crate::reference;
 use crate::rules::{SOURCE, TARGET};
@@ -29,6 +32,8 @@ gets the rows as words and a widths list allocated before and not cleared; it al
 for unknown tags, unused fields and bit bytes above 1 in the whole graph before it judges
 the first row (16 and 17, which the Rust does not have), and after a refusal it zeroes the
 widths list. So an early refusal costs it the whole graph, and the Rust one row.
+The Rust has no values; there it is dag_wf, then tests of width, count and range, then
+arithmetic on u64 over the ready nodes, with the drop of both lists (plain.rs).
 ";
 
 /// Prints the table; false if an answer was not the expected one.
@@ -55,6 +60,7 @@ pub fn bench(seed: u64) -> bool {
         target("target, first row refused", early, Some(0)),
         target("target, last row refused", late, Some(last)),
         roots_case("roots, all of width 1"),
+        values_case("values, all core tags", values_graph(&mut random)),
     ]
     .iter()
     .all(|&good| good)
@@ -68,6 +74,20 @@ fn target_graph(random: &mut Random) -> Lists {
         tag = (tag + 11) % TARGET.tags;
     }
     builder.lists(TARGET)
+}
+
+/// A graph with a word for each row, at widths up to 64.
+fn values_graph(random: &mut Random) -> Lists {
+    let mut builder = Builder::new(random, Style::Values, REACH);
+    let mut tag = 0;
+    while builder.len() < ROWS {
+        builder.row(tag);
+        tag = (tag + 11) % TARGET.tags;
+    }
+    let widths = builder.widths.clone();
+    let mut lists = builder.lists(TARGET);
+    lists.push(operands::given(random, &lists[0], &widths));
+    lists
 }
 
 fn source_graph(random: &mut Random) -> Lists {
@@ -139,6 +159,39 @@ fn roots_case(name: &str) -> bool {
     let mut mine = || ours::roots(&mut widths, &mut roots).number == 0;
     let mut theirs = || black_box(roots_wf(black_box(&sizes), &places)).is_ok();
     race(name, ROWS, &mut mine, &mut theirs)
+}
+
+/// Values, against `dag_wf`, the tests of 21 to 23 and plain.rs.
+fn values_case(name: &str, mut lists: Lists) -> bool {
+    let nodes = reference::dag_nodes(&lists[0]);
+    let flags = reference::flags(&lists[1]);
+    let mut bits = bytes(&lists[1]);
+    let mut given = lists.pop().expect("the given words come last");
+    let words = given.clone();
+    let (mut widths, mut values) = (vec![1; nodes.len()], vec![1; nodes.len()]);
+    let mut mine = || {
+        let answer = ours::values(
+            &mut lists[0],
+            &mut bits,
+            &mut given,
+            &mut widths,
+            &mut values,
+        );
+        answer.number == 0
+    };
+    let mut theirs = || black_box(plain_values(black_box(&nodes), &flags, &words)).is_some();
+    let good = race(name, nodes.len(), &mut mine, &mut theirs);
+    good && plain_values(&nodes, &flags, &words) == Some(values)
+}
+
+/// What a plain Rust program would do: widths, tests, values.
+fn plain_values(nodes: &[DagNode], bits: &[bool], given: &[u64]) -> Option<Vec<u64>> {
+    let widths = dag_wf(nodes, bits.len()).ok()?;
+    let fits = |((node, &width), &word): ((&DagNode, &usize), &u64)| {
+        width <= 64 && (!matches!(node, DagNode::Var(_)) || word <= plain::ones(width))
+    };
+    let good = given.len() == nodes.len() && nodes.iter().zip(&widths).zip(given).all(fits);
+    good.then(|| plain::values(nodes, bits, &widths, given))
 }
 
 /// Runs both in turn and prints a line; false if one of them ever answered

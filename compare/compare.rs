@@ -1,7 +1,9 @@
 //! The comparison: all tiny cases, then random ones, each held to the expected
-//! outcome; the first disagreement is made small and printed.
+//! outcome; the first disagreement is made small and printed. Where there is a
+//! second reference, it must say the same.
 
-use crate::operation::{Kind, Lists, Operation, Outcome, OPERATIONS};
+use crate::grid;
+use crate::operation::{Kind, Lists, Operation, Outcome, Pair, OPERATIONS};
 use crate::ours::Answer;
 use crate::random::Random;
 use crate::show;
@@ -21,6 +23,8 @@ struct Tally {
 struct Counts {
     /// By answer number.
     answers: [u64; 32],
+    /// Cases that the second reference judged, and their rows.
+    second: [u64; 2],
     /// By tag: rows in accepted graphs, and rows that a graph was refused for.
     taken: [u64; 64],
     refused: [u64; 64],
@@ -30,6 +34,7 @@ impl Default for Counts {
     fn default() -> Counts {
         Counts {
             answers: [0; 32],
+            second: [0; 2],
             taken: [0; 64],
             refused: [0; 64],
         }
@@ -41,9 +46,9 @@ pub fn compare(seed: u64, cases: u64) -> bool {
     println!("seed {seed}, all tiny cases and {cases} random ones");
     let mut tally = Tally::default();
     let mut visit = |operation: &'static dyn Operation, lists: &Lists| {
-        judge(operation, lists, &mut tally) || report(operation, lists, "a tiny case")
+        judge(operation, lists, &mut tally, || "a tiny case".to_string())
     };
-    if !tiny::each(&mut visit) {
+    if !(tiny::each(&mut visit) && grid::each(&mut visit)) {
         return false;
     }
     println!("tiny cases: {}", tally.total());
@@ -51,12 +56,9 @@ pub fn compare(seed: u64, cases: u64) -> bool {
         let mut random = Random::of_case(seed, case);
         let operation = choose(&mut random);
         let lists = operation.generate(&mut random, ROWS);
-        if !judge(operation, &lists, &mut tally) {
-            return report(
-                operation,
-                &lists,
-                &format!("random case {case} of seed {seed}"),
-            );
+        let which = || format!("random case {case} of seed {seed}");
+        if !judge(operation, &lists, &mut tally, which) {
+            return false;
         }
     }
     tally.print();
@@ -75,20 +77,30 @@ fn choose(random: &mut Random) -> &'static dyn Operation {
     unreachable!("the weights add up to the total")
 }
 
-/// Runs one case and counts it; false when the outcomes differ.
-fn judge(operation: &'static dyn Operation, lists: &Lists, tally: &mut Tally) -> bool {
+/// Runs one case and counts it; false, with a report, when outcomes differ.
+fn judge(
+    operation: &'static dyn Operation,
+    lists: &Lists,
+    tally: &mut Tally,
+    which: impl Fn() -> String,
+) -> bool {
     let expected = operation.expected(lists);
     tally.count(operation, lists, &expected);
-    operation.ours(lists) == expected
+    if operation.ours(lists) != expected {
+        return report(operation, Pair::Library, lists, &which());
+    }
+    let Some(other) = operation.second(lists) else {
+        return true;
+    };
+    tally.count_second(operation, lists);
+    other == expected || report(operation, Pair::References, lists, &which())
 }
 
 /// Prints a disagreement, made small. Always false.
-fn report(operation: &dyn Operation, lists: &Lists, which: &str) -> bool {
+fn report(operation: &dyn Operation, pair: Pair, lists: &Lists, which: &str) -> bool {
     println!("DISAGREEMENT, found in {which}, made small:");
-    print!(
-        "{}",
-        show::disagreement(operation, &shrink(operation, lists.clone()))
-    );
+    let small = shrink(operation, pair, lists.clone());
+    print!("{}", show::disagreement(operation, pair, &small));
     false
 }
 
@@ -108,6 +120,16 @@ impl Tally {
         }
     }
 
+    fn count_second(&mut self, operation: &dyn Operation, lists: &Lists) {
+        let rows = match operation.lists()[0].1 {
+            Kind::Rows(row) => lists[0].len() / row,
+            _ => 0,
+        };
+        let second = &mut self.operations[operation.number() as usize].second;
+        second[0] += 1;
+        second[1] += rows as u64;
+    }
+
     fn print(&self) {
         for (operation, _) in OPERATIONS {
             let counts = &self.operations[operation.number() as usize];
@@ -121,6 +143,10 @@ impl Tally {
                 println!("  each of {} tags:", operation.tags());
                 println!("    taken at least {} times", taken.unwrap_or(0));
                 println!("    refused at least {} times", refused.unwrap_or(0));
+            }
+            let [cases, rows] = counts.second;
+            if cases > 0 {
+                println!("  by the second reference too: {cases} cases, {rows} rows");
             }
         }
         println!("{} cases, all as expected", self.total());

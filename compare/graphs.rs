@@ -1,6 +1,6 @@
 //! Random well-formed graphs. A row is made to fit the rows before it; where
 //! none of them has the width it needs, a variable of that width is put first.
-//! Selects and Calls are in chains.rs.
+//! Selects and Calls are in chains.rs, operands for values in operands.rs.
 
 use crate::operation::Lists;
 use crate::random::Random;
@@ -18,6 +18,8 @@ pub enum Style {
     Wide,
     /// Selects and Calls, in a source.
     Chains,
+    /// Widths up to 64 and operands at the edges, in a target.
+    Values,
 }
 
 pub struct Builder<'r> {
@@ -134,6 +136,9 @@ impl<'r> Builder<'r> {
     }
 
     pub fn width(&mut self) -> u64 {
+        if self.style == Style::Values {
+            return self.value_width();
+        }
         if self.style == Style::Wide && !self.random.once_in(4) {
             let any = self.random.word() | 1;
             return self
@@ -171,6 +176,9 @@ impl<'r> Builder<'r> {
 
     /// A row of this width, which is above 0.
     pub fn row_of(&mut self, width: u64) -> u64 {
+        if self.style == Style::Values && self.random.once_in(2) {
+            return self.new_operand(width);
+        }
         self.find(|w| w == width).unwrap_or_else(|| {
             self.push(VAR, [width, 0, 0, 0]);
             self.rows.len() as u64 - 1
@@ -178,6 +186,10 @@ impl<'r> Builder<'r> {
     }
 
     fn constant(&mut self) -> [u64; 4] {
+        if self.style == Style::Values {
+            let width = self.value_width();
+            return self.edge_constant(width);
+        }
         let width = self.random.pick(&[1, 2, 8, 8, 32]);
         let spare = self.random.place(3);
         while self.bits.len() < width + spare {
@@ -204,6 +216,7 @@ impl<'r> Builder<'r> {
     fn widest(&self) -> u64 {
         match self.style {
             Style::Wide => MAX,
+            Style::Values => 64,
             _ => 128,
         }
     }
@@ -227,7 +240,7 @@ impl<'r> Builder<'r> {
         let room = self.widest().saturating_sub(self.widths[a as usize]);
         let small = self.random.below(32).min(room);
         let wide = [0, room, room.saturating_sub(1), room / 2, small];
-        let by = if self.style == Style::Wide {
+        let by = if matches!(self.style, Style::Wide | Style::Values) {
             self.random.pick(&wide)
         } else {
             small

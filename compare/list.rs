@@ -5,18 +5,32 @@
 use std::collections::BTreeSet;
 
 use crate::graphs::{Builder, Style};
+use crate::listed;
 use crate::operation::{Kind, Lists, Operation, Outcome, OPERATIONS};
 use crate::random::Random;
+use crate::roots::ROOTS;
 use crate::rules::{Graph, SOURCE, TARGET};
 use crate::tags::{CALL, CONCAT, EXTRACT, SELECT, VAR};
+use crate::values::VALUES;
 use crate::widths::{SOURCE_WIDTHS, TARGET_WIDTHS};
 
 const MAX: u64 = u64::MAX;
 
-/// A case has at most so many rows, a line so many characters, the list so
-/// many bytes.
-const ROWS: usize = 8;
-const LINE: usize = 400;
+/// A case has at most so many rows, a line so many characters.
+#[derive(Clone, Copy)]
+struct Limits {
+    rows: usize,
+    line: usize,
+}
+
+const SHORT: Limits = Limits { rows: 8, line: 400 };
+const LONG: Limits = Limits {
+    rows: 24,
+    line: 999,
+};
+
+/// Every line has fewer words, and the list fewer bytes, than this.
+const WORDS: usize = 500;
 const BYTES: usize = 60_000;
 
 /// How many random cases of an answer an operation gets.
@@ -29,6 +43,19 @@ const WANTED: [(u64, usize); 8] = [
     (17, 8),
     (18, 8),
     (19, 20),
+];
+
+/// The same for values, which comes last.
+const WANTED_VALUES: [(u64, usize); 9] = [
+    (0, 20),
+    (2, 12),
+    (15, 4),
+    (16, 8),
+    (17, 4),
+    (18, 8),
+    (21, 10),
+    (22, 10),
+    (23, 12),
 ];
 
 #[derive(Default)]
@@ -47,21 +74,27 @@ pub fn list(seed: u64) -> bool {
     each_tag(&mut random, SOURCE, &SOURCE_WIDTHS, &mut list);
     each_tag(&mut random, TARGET, &TARGET_WIDTHS, &mut list);
     for lists in edges() {
-        list.add(&SOURCE_WIDTHS, lists);
+        list.add(&SOURCE_WIDTHS, lists, SHORT);
     }
-    for (operation, _) in OPERATIONS {
+    for operation in [&SOURCE_WIDTHS as &dyn Operation, &TARGET_WIDTHS, &ROOTS] {
         for (number, count) in WANTED {
             if operation.answers().contains(&number) {
                 some(&mut random, operation, number, count, &mut list);
             }
         }
     }
+    let good = listed::cases()
+        .into_iter()
+        .all(|lists| list.add(&VALUES, lists, LONG));
+    for (number, count) in WANTED_VALUES {
+        some(&mut random, &VALUES, number, count, &mut list);
+    }
     list.lines.iter().for_each(|line| println!("{line}"));
-    list.complete()
+    list.complete() && good
 }
 
 /// A well-formed graph for each tag.
-fn each_tag(random: &mut Random, graph: Graph, operation: &'static dyn Operation, list: &mut List) {
+fn each_tag(random: &mut Random, graph: Graph, operation: &dyn Operation, list: &mut List) {
     for tag in 0..graph.tags {
         let style = random.pick(&[Style::Narrow, Style::Wide]);
         let mut builder = Builder::new(random, style, usize::MAX);
@@ -70,7 +103,7 @@ fn each_tag(random: &mut Random, graph: Graph, operation: &'static dyn Operation
         let mut lists = builder.lists(graph);
         let spare = random.place(3);
         lists.push(random.junk(rows + spare));
-        list.add(operation, lists);
+        list.add(operation, lists, SHORT);
     }
 }
 
@@ -96,15 +129,15 @@ fn edges() -> Vec<Lists> {
 /// So many random cases that answer this number.
 fn some(
     random: &mut Random,
-    operation: &'static dyn Operation,
+    operation: &dyn Operation,
     number: u64,
     count: usize,
     list: &mut List,
 ) {
     let mut left = count;
     while left > 0 {
-        let lists = operation.generate(random, ROWS);
-        if operation.expected(&lists).answer.number == number && list.add(operation, lists) {
+        let lists = operation.generate(random, SHORT.rows);
+        if operation.expected(&lists).answer.number == number && list.add(operation, lists, SHORT) {
             left -= 1;
         }
     }
@@ -112,16 +145,14 @@ fn some(
 
 impl List {
     /// Adds a case, unless it is too long or there already.
-    fn add(&mut self, operation: &'static dyn Operation, mut lists: Lists) -> bool {
-        for (list, &(_, kind)) in lists.iter_mut().zip(operation.lists()) {
-            if matches!(kind, Kind::Lent(_)) {
-                // Short words, still not 0.
-                list.iter_mut().for_each(|word| *word = 1 + *word % 15);
-            }
-        }
+    fn add(&mut self, operation: &dyn Operation, mut lists: Lists, limits: Limits) -> bool {
+        shorten(operation, &mut lists);
         let outcome = operation.expected(&lists);
         let line = line(operation, &lists, &outcome);
-        if line.len() > LINE || rows(operation, &lists) > ROWS || self.lines.contains(&line) {
+        if line.len() > limits.line
+            || rows(operation, &lists) > limits.rows
+            || self.lines.contains(&line)
+        {
             return false;
         }
         self.note(operation, &lists, &outcome);
@@ -145,9 +176,30 @@ impl List {
     /// numbers are all there because `some` looked for each.
     fn complete(&self) -> bool {
         let bytes: usize = self.lines.iter().map(|line| line.len() + 1).sum();
-        let tags = SOURCE.tags + TARGET.tags;
+        let words = self.lines.iter().map(|line| line.split(' ').count()).max();
+        let tags: usize = OPERATIONS.iter().map(|(of, _)| of.tags()).sum();
         eprintln!("{} cases, {bytes} bytes", self.lines.len());
-        bytes < BYTES && self.taken.len() as u64 == tags && self.highest == [true; 2]
+        bytes < BYTES
+            && words < Some(WORDS)
+            && self.taken.len() == tags
+            && self.highest == [true; 2]
+    }
+}
+
+/// Short words where any would do: in lent lists, still not 0, and for rows
+/// that are no variables.
+fn shorten(operation: &dyn Operation, lists: &mut Lists) {
+    let graph = lists[0].clone();
+    for (list, &(_, kind)) in lists.iter_mut().zip(operation.lists()) {
+        match kind {
+            Kind::Lent(_) => list.iter_mut().for_each(|word| *word = 1 + *word % 15),
+            Kind::Given(_) => list
+                .iter_mut()
+                .zip(graph.chunks(TARGET.row))
+                .filter(|(_, row)| row[0] != VAR)
+                .for_each(|(word, _)| *word %= 16),
+            _ => {}
+        }
     }
 }
 

@@ -1,36 +1,44 @@
 //! Holds the library libgilfrunt.a to the published Rust.
 //!
 //! `compare` runs many cases through both, `list` writes a fixed list of cases
-//! with the expected outcomes, `bench` takes times. docs/COMPARISON.md tells
-//! more; `compare/run` builds and starts this program.
+//! with the expected outcomes, `bench` takes times, `smt` writes the library's
+//! values as a script for a solver. docs/COMPARISON.md tells more;
+//! `compare/run` builds and starts this program.
 
 mod bench;
 mod chains;
 mod compare;
 mod damage;
 mod graphs;
+mod grid;
 mod list;
+mod listed;
+mod operands;
 mod operation;
 mod ours;
+mod plain;
 mod random;
 mod reference;
 mod roots;
 mod rules;
 mod show;
 mod shrink;
+mod smt;
 mod tags;
 mod tiny;
+mod values;
 mod widths;
 
 use std::process::ExitCode;
 
-const USAGE: &str = "usage: [compare|bench|list] [--seed N] [--cases N]";
+const USAGE: &str = "usage: [compare|bench|list|smt] [--seed N] [--cases N] [--rows N]";
 
 /// The words of the command line.
 struct Command {
     what: String,
     seed: u64,
     cases: u64,
+    rows: u64,
 }
 
 fn command(mut words: impl Iterator<Item = String>) -> Option<Command> {
@@ -38,12 +46,14 @@ fn command(mut words: impl Iterator<Item = String>) -> Option<Command> {
         what: "compare".to_string(),
         seed: 1,
         cases: 1_000_000,
+        rows: 20_000,
     };
     while let Some(word) = words.next() {
         match word.as_str() {
             "--seed" => command.seed = words.next()?.parse().ok()?,
             "--cases" => command.cases = words.next()?.parse().ok()?,
-            "compare" | "bench" | "list" => command.what = word,
+            "--rows" => command.rows = words.next()?.parse().ok()?,
+            "compare" | "bench" | "list" | "smt" => command.what = word,
             _ => return None,
         }
     }
@@ -51,14 +61,15 @@ fn command(mut words: impl Iterator<Item = String>) -> Option<Command> {
 }
 
 fn main() -> ExitCode {
-    let Some(Command { what, seed, cases }) = command(std::env::args().skip(1)) else {
+    let Some(command) = command(std::env::args().skip(1)) else {
         eprintln!("{USAGE}");
         return ExitCode::from(2);
     };
-    let good = match what.as_str() {
-        "bench" => bench::bench(seed),
-        "list" => list::list(seed),
-        _ => compare::compare(seed, cases),
+    let good = match command.what.as_str() {
+        "bench" => bench::bench(command.seed),
+        "list" => list::list(command.seed),
+        "smt" => smt::smt(command.seed, command.rows),
+        _ => compare::compare(command.seed, command.cases),
     };
     ExitCode::from(if good { 0 } else { 1 })
 }

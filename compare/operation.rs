@@ -5,6 +5,7 @@
 use crate::ours::Answer;
 use crate::random::Random;
 use crate::roots::ROOTS;
+use crate::values::VALUES;
 use crate::widths::{SOURCE_WIDTHS, TARGET_WIDTHS};
 
 pub type Lists = Vec<Vec<u64>>;
@@ -16,6 +17,8 @@ pub enum Kind {
     Rows(usize),
     /// Bytes that should be 0 or 1.
     Bits,
+    /// A word given for each row of the list at this index.
+    Given(usize),
     /// Words of any other meaning.
     Words,
     /// A list lent for writing, a word for each row of the list at this index.
@@ -49,13 +52,51 @@ pub trait Operation: Sync {
     fn ours(&self, lists: &Lists) -> Outcome;
     /// The outcome that the rules and the reference ask for.
     fn expected(&self, lists: &Lists) -> Outcome;
+    /// The same by a second reference, if there is one for this case.
+    fn second(&self, _lists: &Lists) -> Option<Outcome> {
+        None
+    }
+    /// Cases for the shrinker to try beside those with parts dropped or words
+    /// lowered: each has fewer rows that are no variables, or lower words.
+    fn simpler(&self, _lists: &Lists) -> Vec<Lists> {
+        Vec::new()
+    }
 }
 
 /// Every operation, with how many of a hundred random cases it gets.
-pub const OPERATIONS: [(&dyn Operation, u64); 3] =
-    [(&SOURCE_WIDTHS, 45), (&TARGET_WIDTHS, 35), (&ROOTS, 20)];
+pub const OPERATIONS: [(&dyn Operation, u64); 4] = [
+    (&SOURCE_WIDTHS, 35),
+    (&TARGET_WIDTHS, 20),
+    (&ROOTS, 15),
+    (&VALUES, 30),
+];
 
-/// Does the library do what is expected?
-pub fn agrees(operation: &dyn Operation, lists: &Lists) -> bool {
-    operation.ours(lists) == operation.expected(lists)
+/// Two outcomes of a case that must be equal.
+#[derive(Clone, Copy)]
+pub enum Pair {
+    Library,
+    References,
+}
+
+impl Pair {
+    pub fn names(self) -> [&'static str; 2] {
+        match self {
+            Pair::Library => ["ours", "expected"],
+            Pair::References => ["second reference", "expected"],
+        }
+    }
+
+    pub fn outcomes(self, operation: &dyn Operation, lists: &Lists) -> [Outcome; 2] {
+        let expected = operation.expected(lists);
+        let other = match self {
+            Pair::Library => operation.ours(lists),
+            Pair::References => operation.second(lists).unwrap_or(expected.clone()),
+        };
+        [other, expected]
+    }
+
+    pub fn agrees(self, operation: &dyn Operation, lists: &Lists) -> bool {
+        let [other, expected] = self.outcomes(operation, lists);
+        other == expected
+    }
 }

@@ -40,6 +40,19 @@ extern "C" {
         roots: *const u64,
         roots_len: usize,
     ) -> Answer;
+
+    fn gilfrunt_values(
+        target: *const u64,
+        target_len: usize,
+        bits: *const u8,
+        bits_len: usize,
+        given: *const u64,
+        given_len: usize,
+        widths: *mut u64,
+        widths_len: usize,
+        values: *mut u64,
+        values_len: usize,
+    ) -> Answer;
 }
 
 pub fn source_widths(
@@ -89,6 +102,30 @@ pub fn roots(widths: &mut [u64], roots: &mut [u64]) -> Answer {
     }
 }
 
+pub fn values(
+    target: &mut [u64],
+    bits: &mut [u8],
+    given: &mut [u64],
+    widths: &mut [u64],
+    values: &mut [u64],
+) -> Answer {
+    // As above.
+    unsafe {
+        gilfrunt_values(
+            target.as_mut_ptr(),
+            target.len(),
+            bits.as_mut_ptr(),
+            bits.len(),
+            given.as_mut_ptr(),
+            given.len(),
+            widths.as_mut_ptr(),
+            widths.len(),
+            values.as_mut_ptr(),
+            values.len(),
+        )
+    }
+}
+
 /// Words put before and after a lent list.
 const FENCE: usize = 4;
 const FENCE_WORD: u64 = 0xfe4c_e000_fe4c_e001;
@@ -106,4 +143,19 @@ pub fn fenced(list: &mut [u64], call: impl FnOnce(&mut [u64]) -> Answer) -> (Ans
         .chain(&room[end..])
         .any(|&w| w != FENCE_WORD);
     (answer, strayed)
+}
+
+/// The same for two lent lists.
+pub fn fenced_both(
+    lists: [&mut [u64]; 2],
+    call: impl FnOnce(&mut [u64], &mut [u64]) -> Answer,
+) -> (Answer, bool) {
+    let [first, second] = lists;
+    let mut from_second = false;
+    let (answer, from_first) = fenced(first, |first| {
+        let (answer, strayed) = fenced(second, |second| call(first, second));
+        from_second = strayed;
+        answer
+    });
+    (answer, from_first || from_second)
 }

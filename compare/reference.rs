@@ -3,10 +3,11 @@
 //! Words are turned into its nodes by the row's tag. This is done only after
 //! the rules 15 to 18 found nothing, so each tag is known.
 
-use kernel::blast_kernel::DagNode;
+use kernel::blast_kernel::{aig_new, encode, eval_lit, simulate, DagNode, Lit};
 use kernel::sliver_kernel::{ext_wf, ExtNode, SliverCheckError};
 use kernel::{dag_wf, roots_wf, QueryError};
 
+use crate::plain;
 use crate::tags::{CALL, SELECT};
 
 /// The core node of a row: its tag and its first three fields.
@@ -96,6 +97,37 @@ pub fn target_widths(target: &[u64], bits: usize) -> Result<Vec<u64>, u64> {
         Err(QueryError::NodeNotWellFormed { node }) => Err(node as u64),
         Err(other) => panic!("dag_wf refused with {other:?}"),
     }
+}
+
+pub fn flags(bits: &[u64]) -> Vec<bool> {
+    bits.iter().map(|&b| b == 1).collect()
+}
+
+/// The primary inputs: the bits of each variable's word, lowest first.
+fn inputs(nodes: &[DagNode], given: &[u64]) -> Vec<bool> {
+    let bits = |(node, &word): (&DagNode, &u64)| {
+        let width = if let DagNode::Var(w) = *node { w } else { 0 };
+        (0..width).map(move |k| word >> k & 1 == 1)
+    };
+    nodes.iter().zip(given).flat_map(bits).collect()
+}
+
+/// The values of a well-formed target's rows by the published gates: encoded,
+/// simulated, and each row's word read back. No row is wider than 64 bits.
+pub fn gate_values(target: &[u64], bits: &[u64], given: &[u64]) -> Vec<u64> {
+    let nodes = dag_nodes(target);
+    let mut gates = aig_new();
+    let (rows, _) = encode(&mut gates, &nodes, &flags(bits), &[]);
+    let simulated = simulate(&gates, &inputs(&nodes, given));
+    let bit = |lit: Lit| u64::from(eval_lit(&simulated, lit));
+    rows.iter()
+        .map(|row| row.iter().rev().fold(0, |word, &lit| word << 1 | bit(lit)))
+        .collect()
+}
+
+/// The same by plain arithmetic.
+pub fn plain_values(target: &[u64], bits: &[u64], widths: &[u64], given: &[u64]) -> Vec<u64> {
+    plain::values(&dag_nodes(target), &flags(bits), &sizes(widths), given)
 }
 
 /// Nothing, or the first position that `roots_wf` refuses.

@@ -1,8 +1,9 @@
-//! What the scope adds to the published Rust: the refusals 15 to 18, their
-//! order, and what a lent list holds after each answer.
+//! What the scope adds to the published Rust: the refusals 15 to 18 and 21 to
+//! 23, their order, and what a lent list holds after each answer.
 
+use crate::operation::Lists;
 use crate::ours::Answer;
-use crate::tags::TAGS;
+use crate::tags::{TAGS, VAR};
 
 /// The two kinds of graph.
 #[derive(Clone, Copy)]
@@ -62,6 +63,16 @@ pub fn bad_bit(graph: Graph, bits: &[u64]) -> Option<Answer> {
     Some(answer(17, place as u64, graph.number))
 }
 
+/// The first of the four rules above that applies. The lent lists come with
+/// their places.
+fn added(graph: Graph, rows: &[u64], bits: &[u64], lent: &[(u64, &[u64])]) -> Option<Answer> {
+    let short = |&(place, list): &(u64, &[u64])| work_short(place, graph, rows, list);
+    row_count(graph, rows)
+        .or_else(|| lent.iter().find_map(short))
+        .or_else(|| bad_row(graph, rows))
+        .or_else(|| bad_bit(graph, bits))
+}
+
 /// The answer of source widths or target widths, and the widths that an
 /// acceptance writes. `judge` is the reference, asked only when none of the
 /// four rules above applies.
@@ -72,17 +83,58 @@ pub fn widths(
     lent: &[u64],
     judge: impl FnOnce() -> Result<Vec<u64>, u64>,
 ) -> (Answer, Vec<u64>) {
-    let added = row_count(graph, rows)
-        .or_else(|| work_short(graph.number, graph, rows, lent))
-        .or_else(|| bad_row(graph, rows))
-        .or_else(|| bad_bit(graph, bits));
-    match added {
+    let refusal = added(graph, rows, bits, &[(graph.number, lent)]);
+    judged(graph, refusal, judge)
+}
+
+fn judged(
+    graph: Graph,
+    refusal: Option<Answer>,
+    judge: impl FnOnce() -> Result<Vec<u64>, u64>,
+) -> (Answer, Vec<u64>) {
+    match refusal {
         Some(refusal) => (refusal, Vec::new()),
         None => match judge() {
             Ok(widths) => (ACCEPTED, widths),
             Err(row) => (answer(graph.number, row, 0), Vec::new()),
         },
     }
+}
+
+/// 21: the first row above 64 bits.
+fn too_wide(widths: &[u64]) -> Option<Answer> {
+    let row = widths.iter().position(|&w| w > 64)?;
+    Some(answer(21, row as u64, 0))
+}
+
+/// 22: not one given word a row.
+fn value_count(widths: &[u64], given: &[u64]) -> Option<Answer> {
+    let (rows, words) = (widths.len() as u64, given.len() as u64);
+    (rows != words).then(|| answer(22, rows, words))
+}
+
+/// 23: the first variable whose word has a one bit at its width or above.
+fn value_range(rows: &[u64], widths: &[u64], given: &[u64]) -> Option<Answer> {
+    let over = |row: usize| {
+        rows[TARGET.row * row] == VAR && widths[row] < 64 && given[row] >> widths[row] != 0
+    };
+    let row = (0..widths.len()).find(|&row| over(row))?;
+    Some(answer(23, row as u64, 0))
+}
+
+/// The answer of values, and the widths that an acceptance writes. The lists
+/// are rows, bits, given words, widths and values; `judge` is as above.
+pub fn values(lists: &Lists, judge: impl FnOnce() -> Result<Vec<u64>, u64>) -> (Answer, Vec<u64>) {
+    let (rows, given) = (&lists[0], &lists[2]);
+    let refusal = added(TARGET, rows, &lists[1], &[(1, &lists[3]), (2, &lists[4])]);
+    let (answer, widths) = judged(TARGET, refusal, judge);
+    if answer != ACCEPTED {
+        return (answer, widths);
+    }
+    let refusal = too_wide(&widths)
+        .or_else(|| value_count(&widths, given))
+        .or_else(|| value_range(rows, &widths, given));
+    (refusal.unwrap_or(ACCEPTED), widths)
 }
 
 /// The memory rule: 15 and 18 write nothing, any other refusal zeroes the

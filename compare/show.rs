@@ -1,19 +1,25 @@
 //! A case for a reader: each list under its name, each row with its tag's name.
 
-use crate::operation::{Kind, Lists, Operation, Outcome};
+use crate::operation::{Kind, Lists, Operation, Outcome, Pair};
 use crate::ours::Answer;
 use crate::tags::TAGS;
 
-/// A disagreement: the input, what the library did and what was expected.
-pub fn disagreement(operation: &dyn Operation, lists: &Lists) -> String {
-    let (ours, expected) = (operation.ours(lists), operation.expected(lists));
+/// A disagreement: the input and the two outcomes.
+pub fn disagreement(operation: &dyn Operation, pair: Pair, lists: &Lists) -> String {
+    let (names, outcomes) = (pair.names(), pair.outcomes(operation, lists));
     let mut text = format!("{}, on this input:\n", operation.name());
     for (list, &(name, kind)) in lists.iter().zip(operation.lists()) {
         text += &named(name, kind, list);
     }
-    text += &format!("ours:     {}\n", shown(ours.answer));
-    text += &format!("expected: {}\n", shown(expected.answer));
-    text + &differing(operation, &ours, &expected)
+    for (name, outcome) in names.iter().zip(&outcomes) {
+        text += &format!("{} {}\n", titled(name), shown(outcome.answer));
+    }
+    text + &differing(operation, names, &outcomes)
+}
+
+/// A name with a colon, in a column.
+fn titled(name: &str) -> String {
+    format!("{:9}", format!("{name}:"))
 }
 
 fn shown(answer: Answer) -> String {
@@ -24,17 +30,22 @@ fn shown(answer: Answer) -> String {
 }
 
 /// The lists that are not as expected after the call.
-fn differing(operation: &dyn Operation, ours: &Outcome, expected: &Outcome) -> String {
+fn differing(
+    operation: &dyn Operation,
+    names: [&'static str; 2],
+    outcomes: &[Outcome; 2],
+) -> String {
     let mut text = String::new();
-    for (place, &(name, _)) in operation.lists().iter().enumerate() {
-        if ours.lists[place] != expected.lists[place] {
-            text += &format!("{name} after the call\n");
-            text += &format!("  ours:     {}\n", words(&ours.lists[place]));
-            text += &format!("  expected: {}\n", words(&expected.lists[place]));
+    for (place, &(list, _)) in operation.lists().iter().enumerate() {
+        if outcomes[0].lists[place] != outcomes[1].lists[place] {
+            text += &format!("{list} after the call\n");
+            for (name, outcome) in names.iter().zip(outcomes) {
+                text += &format!("  {} {}\n", titled(name), words(&outcome.lists[place]));
+            }
         }
     }
-    if ours.strayed {
-        text += "the call wrote beside the list that was lent to it\n";
+    if outcomes[0].strayed {
+        text += "the call wrote beside a list that was lent to it\n";
     }
     text
 }

@@ -4,17 +4,34 @@
 pub const VAR: u64 = 0;
 pub const CONST: u64 = 1;
 pub const ADD: u64 = 2;
+pub const MUL: u64 = 4;
+pub const UDIV: u64 = 5;
+pub const UREM: u64 = 6;
+pub const AND: u64 = 7;
+pub const XOR: u64 = 9;
+pub const SHL: u64 = 10;
+pub const LSHR: u64 = 11;
+pub const ASHR: u64 = 12;
+pub const ROTR: u64 = 13;
 pub const EXTRACT: u64 = 14;
 pub const CONCAT: u64 = 15;
 pub const ZERO_EXT: u64 = 16;
 pub const SIGN_EXT: u64 = 17;
 pub const ITE: u64 = 18;
 pub const EQ: u64 = 19;
+pub const NE: u64 = 20;
+pub const ULT: u64 = 21;
+pub const UGE: u64 = 24;
+pub const SLT: u64 = 25;
+pub const SGE: u64 = 28;
 pub const NOT: u64 = 29;
 pub const BOOL_AND: u64 = 30;
 pub const BOOL_OR: u64 = 31;
 pub const BV_NOT: u64 = 32;
 pub const NEG: u64 = 33;
+pub const ROTL: u64 = 34;
+pub const SDIV: u64 = 35;
+pub const SREM: u64 = 36;
 pub const SELECT: u64 = 37;
 pub const CALL: u64 = 38;
 
@@ -27,6 +44,11 @@ pub fn names_row(tag: u64, field: usize) -> bool {
         SELECT => field == 2,
         _ => true,
     }
+}
+
+/// The tags of two operands of one width, which may be any.
+pub fn pair_tags() -> impl Iterator<Item = u64> {
+    (ADD..=ROTR).chain(EQ..=SGE).chain(ROTL..=SREM)
 }
 
 /// Name and number of used fields, by tag.

@@ -1,10 +1,12 @@
 //! Tiny graphs, all of them: one row over no, one or two variables, its fields
 //! taken from a few edge values in every combination. Also tiny root lists.
+//! grid.rs has the operators on all operands of small widths.
 
-use crate::operation::{Lists, Operation};
+use crate::operation::{Kind, Lists, Operation};
 use crate::roots::ROOTS;
 use crate::rules::{Graph, SOURCE, TARGET};
 use crate::tags::{CALL, CONST, SELECT, TAGS};
+use crate::values::VALUES;
 use crate::widths::{SOURCE_WIDTHS, TARGET_WIDTHS};
 
 const MAX: u64 = u64::MAX;
@@ -14,7 +16,10 @@ pub type Visit<'v> = dyn FnMut(&'static dyn Operation, &Lists) -> bool + 'v;
 
 /// Visits every tiny case; false when the visitor stopped it.
 pub fn each(visit: &mut Visit) -> bool {
-    graphs(SOURCE, &SOURCE_WIDTHS, visit) && graphs(TARGET, &TARGET_WIDTHS, visit) && roots(visit)
+    graphs(SOURCE, &SOURCE_WIDTHS, visit)
+        && graphs(TARGET, &TARGET_WIDTHS, visit)
+        && graphs(TARGET, &VALUES, visit)
+        && roots(visit)
 }
 
 /// Every list of exactly `length` words taken from `words`.
@@ -120,12 +125,15 @@ fn one(
     side: &[u64],
     visit: &mut Visit,
 ) -> bool {
-    let lent = vec![0xa5a5; rows.len() / graph.row + 1];
-    let lists = if graph.tags > SELECT {
-        vec![rows, bits, side.to_vec(), lent]
-    } else {
-        vec![rows, bits, lent]
-    };
+    let count = rows.len() / graph.row;
+    let mut lists = vec![rows, bits];
+    for &(_, kind) in &operation.lists()[2..] {
+        lists.push(match kind {
+            Kind::Given(_) => vec![1; count],
+            Kind::Lent(_) => vec![0xa5a5; count + 1],
+            _ => side.to_vec(),
+        });
+    }
     visit(operation, &lists)
 }
 

@@ -74,6 +74,37 @@ gilfrunt_answer gilfrunt_roots(
     const uint64_t *widths, size_t widths_len,
     const uint64_t *roots, size_t roots_len);
 
+/* The values of a target graph's rows, with a word given for each row. Those
+ * of variables (tag 0) are their values, the others are ignored. Operators mean
+ * what they mean in SMT-LIB; rotations take their amount modulo the width.
+ * Answers the first of these that applies:
+ *
+ *   15  place 2            target_len is no multiple of 4
+ *   18  place 1            widths_len is below the number of rows
+ *   18  place 2            values_len is
+ *   16  place row,         as by gilfrunt_target_widths
+ *       detail 2
+ *   17  place position,    first byte of bits above 1
+ *       detail 2
+ *    2  place row          first row that is not well formed
+ *   21  place row          first row wider than 64 bits
+ *   22  place rows,        given_len is not the number of rows: place is that
+ *       detail given_len   number
+ *   23  place row          first variable whose word has a one bit at its width
+ *                          or above
+ *    0                     accepted
+ *
+ * 0 leaves the width of each row in widths, its value in values, and zeros
+ * after the last row in both. 15 and 18 write nothing; every other refusal sets
+ * both whole lists to 0. The other lists are only read.
+ */
+gilfrunt_answer gilfrunt_values(
+    const uint64_t *target, size_t target_len,
+    const uint8_t *bits, size_t bits_len,
+    const uint64_t *given, size_t given_len,
+    uint64_t *widths, size_t widths_len,
+    uint64_t *values, size_t values_len);
+
 #ifdef __cplusplus
 }
 #endif

@@ -4,6 +4,7 @@ use Prim.Native.Nat.{ℕ}
 use Rattle.answers.specs.declared.Words.{Words}
 use Rattle.answers.specs.Answer.{wordsOf}
 use Rattle.widths.specs.Widths.{Out}
+use Rattle.values.specs.Values as values
 
 -- number, place and detail, and the lent list afterwards
 pub record Result : Type 0 where
@@ -15,3 +16,15 @@ result w l = record { words = w; list = l }
 
 abbrev pub resultOf : Out → Result
 resultOf o = result (wordsOf (o .answer)) (o .list)
+
+-- the same with two lent lists
+pub record Results : Type 0 where
+  pub words : Words
+  pub first : List ℕ
+  pub second : List ℕ
+
+abbrev pub results : Words → List ℕ → List ℕ → Results
+results w k l = record { words = w; first = k; second = l }
+
+abbrev pub resultsOf : values.Out → Results
+resultsOf o = results (wordsOf (o .answer)) (o .widths) (o .values)

@@ -16,6 +16,7 @@ pub fn agrees(words: &[u64]) -> bool {
         1 => widths_agree(words, true, 4),
         2 => widths_agree(words, false, 3),
         3 => roots_agree(words),
+        4 => values_agree(words),
         _ => false,
     }
 }
@@ -67,4 +68,47 @@ fn roots_agree(words: &[u64]) -> bool {
     let widths = case::given(words, 0);
     let answer = gilfrunt::gilfrunt_roots(widths, case::given(words, 1));
     case::same_answer(words, answer)
+}
+
+// Calls on copies of the case's bits and lent lists, and compares the answer and both lists.
+fn same_values(words: &[u64], bits: &[u8], widths: &mut [u64], values: &mut [u64]) -> bool {
+    let answer = gilfrunt::gilfrunt_values(
+        case::given(words, 0),
+        bits,
+        case::given(words, 2),
+        widths,
+        values,
+    );
+    if !case::same_answer(words, answer) {
+        return false;
+    }
+    if !case::same_list(widths, case::expected(words, 0)) {
+        return false;
+    }
+    case::same_list(values, case::expected(words, 1))
+}
+
+// Values of a target: the bits are list 1, the lent lists are 3 and 4.
+fn values_agree(words: &[u64]) -> bool {
+    if !case::has_shape(words, 5, 2) {
+        return false;
+    }
+    let bits = case::given(words, 1);
+    let before = case::given(words, 3);
+    let before_too = case::given(words, 4);
+    let b = bits.len();
+    let n = before.len();
+    let m = before_too.len();
+    if ROOM < b || ROOM < n || ROOM < m {
+        return false;
+    }
+    let mut bytes = [0u8; ROOM];
+    let mut widths = [0u64; ROOM];
+    let mut values = [0u64; ROOM];
+    if !case::copy_bytes(bits, &mut bytes) {
+        return false;
+    }
+    case::copy(before, &mut widths);
+    case::copy(before_too, &mut values);
+    same_values(words, &bytes[..b], &mut widths[..n], &mut values[..m])
 }
