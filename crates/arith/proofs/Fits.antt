@@ -6,32 +6,23 @@ use native.Mathlib.Nat.{mod-lt, add-comm, lt-of-lt-of-le}
 use lib.Dec.{eqb, ltb, leb}
 use lib.Arith.{digits-lt}
 use lib.Pow.{pow-pos, pow-mono, pow-add, ones-lt}
+use Rattle.bv.proofs.Fits.{nat2bv-fits, either-lt}
 use Rattle.bv.specs.Bits.{ofBool}
-use Rattle.bv.specs.Bv.{nat2bv, bvneg, bvadd, bvsub, bvmul, bvult, bvule, bvugt, bvuge, bvslt, bvsle, bvsgt, bvsge, equal, distinct, ite, negative, bySigns, concat, extract, zero-extend, sign-extend}
+use Rattle.bv.specs.Bv.{bvneg, bvadd, bvsub, bvmul, bvult, bvule, bvugt, bvuge, bvslt, bvsle, bvsgt, bvsge, equal, distinct, ite, negative, bySigns, concat, extract, zero-extend, sign-extend}
 
 -- ---- sums and products are remainders
-pub nat2bv-fits : (w x : ℕ) → nat2bv w x < 2 ^ w
-nat2bv-fits w x = mod-lt x (pow-pos w)
-
 pub add-fits : (w a b : ℕ) → bvadd w a b < 2 ^ w
 add-fits w a b = nat2bv-fits w (a + b)
 
 pub sub-fits : (w a b : ℕ) → bvsub w a b < 2 ^ w
 sub-fits w a b = nat2bv-fits w (a + bvneg w b)
 
-pub neg-fits : (w a : ℕ) → bvneg w a < 2 ^ w
-neg-fits w a = nat2bv-fits w (2 ^ w - a)
-
 pub mul-fits : (w a b : ℕ) → bvmul w a b < 2 ^ w
 mul-fits w a b = nat2bv-fits w (a * b)
 
 -- ---- a choice of two numbers of width w
-pub cond-fits : (w : ℕ) (t : Bool) (a b : ℕ) → a < 2 ^ w → b < 2 ^ w → cond t a b < 2 ^ w
-cond-fits w true a b h l = h
-cond-fits w false a b h l = l
-
 pub ite-fits : (w c a b : ℕ) → a < 2 ^ w → b < 2 ^ w → ite c a b < 2 ^ w
-ite-fits w c a b h l = cond-fits w (eqb c 1) a b h l
+ite-fits w c a b h l = either-lt (eqb c 1) a b (2 ^ w) h l
 
 -- ---- comparisons have width 1
 pub ofBool-fits : (t : Bool) → ofBool t < 2 ^ 1
@@ -59,9 +50,9 @@ uge-fits a b = ule-fits b a
 -- a signed comparison is 1, 0 or the unsigned one
 signs-fits : (w a b same : ℕ) → same < 2 ^ 1 → bySigns w a b same 1 0 same < 2 ^ 1
 signs-fits w a b same h =
-    cond-fits 1 (negative w a) _ _
-    (cond-fits 1 (negative w b) same 1 h (ofBool-fits true))
-    (cond-fits 1 (negative w b) 0 same (ofBool-fits false) h)
+    either-lt (negative w a) _ _ (2 ^ 1)
+    (either-lt (negative w b) same 1 (2 ^ 1) h (ofBool-fits true))
+    (either-lt (negative w b) 0 same (2 ^ 1) (ofBool-fits false) h)
 
 pub slt-fits : (w a b : ℕ) → bvslt w a b < 2 ^ 1
 slt-fits w a b = signs-fits w a b (bvult a b) (ult-fits a b)
@@ -94,4 +85,4 @@ pub zero-extend-fits : (w n a : ℕ) → a < 2 ^ w → zero-extend w a < 2 ^ (w 
 zero-extend-fits w n a l = above-fits w n 0 a (pow-pos n) l
 
 pub sign-extend-fits : (w n a : ℕ) → a < 2 ^ w → sign-extend w n a < 2 ^ (w + n)
-sign-extend-fits w n a l = above-fits w n _ a (cond-fits n (negative w a) (2 ^ n - 1) 0 (ones-lt n) (pow-pos n)) l
+sign-extend-fits w n a l = above-fits w n _ a (either-lt (negative w a) (2 ^ n - 1) 0 (2 ^ n) (ones-lt n) (pow-pos n)) l

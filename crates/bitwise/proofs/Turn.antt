@@ -8,6 +8,7 @@ use lib.Pow.{pow-pos, pow-add, split, field, shr-lt, shr-shr, shl-exact, mod-mod
 use lib.Bits.{bitOr, or-shifted}
 use Rattle.bv.specs.Bv.{concat, msb, rotate-right, rotate-left}
 use Rattle.bv.proofs.Word.{top-below}
+use Rattle.bv.proofs.Fits.{double}
 use Rattle.bitwise.proofs.Digits.{bit-lt}
 
 -- one turn to the right, one to the left
@@ -16,9 +17,6 @@ right w a = concat (w - 1) (a % 2) (a / 2)
 
 abbrev pub left : ℕ → ℕ → ℕ
 left w a = concat 1 (a % 2 ^ (w - 1)) (msb w a)
-
-pub double : (w : ℕ) → 0 < w → 2 ^ w ≡ 2 ^ (w - 1) * 2
-double w h = let e : w ≡ suc (w - 1) = omega arith in ap (λ (k : ℕ). 2 ^ k) e ∙ pow-suc 2 (w - 1)
 
 pub right-fits : (w a : ℕ) → 0 < w → a < 2 ^ w → right w a < 2 ^ w
 right-fits w a h l =

@@ -1,19 +1,12 @@
 -- Every answer of the division operators is below 2 ^ w, at every width. Assumes nothing.
 use Prim.Native.Nat.{ℕ, _<_, _-_, _^_}
-use mathlib.Core.Bool.{Bool, true, false, cond}
+use mathlib.Core.Bool.{Bool, cond}
 use native.Mathlib.Omega.{arith}
-use native.Mathlib.Nat.{mod-lt, mod-le, div-le-self}
+use native.Mathlib.Nat.{mod-le, div-le-self}
 use lib.Dec.{eqb}
-use lib.Pow.{pow-pos, ones-lt}
+use lib.Pow.{ones-lt}
+use Rattle.bv.proofs.Fits.{neg-fits, either-lt}
 use Rattle.bv.specs.Bv.{bvneg, bvudiv, bvurem, bvsdiv, bvsrem, negative}
-
--- a choice is below a bound if both sides are
-either-lt : (t : Bool) (x y m : ℕ) → x < m → y < m → cond t x y < m
-either-lt true x y m h k = h
-either-lt false x y m h k = k
-
-pub neg-fits : (w a : ℕ) → bvneg w a < 2 ^ w
-neg-fits w a = mod-lt (2 ^ w - a) (pow-pos w)
 
 pub udiv-fits : (w a b : ℕ) → a < 2 ^ w → bvudiv w a b < 2 ^ w
 udiv-fits w a b h = either-lt (eqb b 0) _ _ _ (ones-lt w) (omega (arith, div-le-self a b))

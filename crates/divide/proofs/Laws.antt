@@ -11,7 +11,8 @@ use lib.IntN.{ℤ, pos, negℤ, natAbs}
 use lib.Signed.{quotZ, remZ}
 use Rattle.bv.specs.Bv.{bvneg, bvudiv, bvurem, bvsdiv, bvsrem, negative}
 use Rattle.divide.specs.TwosComplement.{toInt, ofInt, overflow}
-use Rattle.divide.proofs.Fits.{neg-fits, choose}
+use Rattle.bv.proofs.Fits.{neg-fits}
+use Rattle.divide.proofs.Fits.{choose}
 use Rattle.divide.proofs.Signs.{read-sign, neg-sub, back-pos, back-neg, neg-neg}
 
 -- ---- quotients and remainders of signed numbers given by sign and magnitude

@@ -10,7 +10,7 @@ use lib.Pow.{pow-pos}
 use lib.IntN.{ℤ, pos, negsuc, negℤ, _+ℤ_, subℕ}
 use Rattle.bv.specs.Bv.{bvneg, negative}
 use Rattle.divide.specs.TwosComplement.{toInt, ofInt}
-use Rattle.divide.proofs.Fits.{neg-fits}
+use Rattle.bv.proofs.Fits.{neg-fits}
 use Rattle.divide.proofs.Signs.{read-sign, back-pos, back-neg, neg-neg}
 
 pub back-fits : (w : ℕ) (z : ℤ) → ofInt w z < 2 ^ w

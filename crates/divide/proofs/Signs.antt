@@ -3,19 +3,18 @@ use Prim.Native.Nat.{ℕ, zero, suc, _≤_, _<_, _+_, _-_, _/_, _^_}
 use mathlib.Core.Bool.{Bool, true, false, not, cond}
 use mathlib.Core.Path.{_≡_, refl, ap, _∙_}
 use native.Mathlib.Omega.{arith}
-use native.Mathlib.Nat.{mod-eq-of-lt, mod-self, zero-mod, sub-zero, two-pow-succ, div-eq-of-lt, div-eq-of-lt-le}
+use native.Mathlib.Nat.{mod-eq-of-lt, mod-self, zero-mod, sub-zero, div-eq-of-lt, div-eq-of-lt-le}
 use borrow.Author.Tests.{ltb-true, ltb-false}
 use lib.Dec.{ltb}
 use lib.Pow.{pow-pos, pow-sub-lt}
 use lib.IntN.{pos, negℤ}
+use Rattle.bv.proofs.Fits.{double}
 use Rattle.bv.specs.Bv.{bvneg, negative}
 use Rattle.divide.specs.TwosComplement.{toInt, ofInt}
 
 -- the power of a width is twice that of its top bit
 pub twice : (w : ℕ) → 0 < w → 2 ^ w ≡ 2 ^ (w - 1) + 2 ^ (w - 1)
-twice w h =
-    let e : w ≡ suc (w - 1) = omega arith in
-    ap (λ (k : ℕ). 2 ^ k) e ∙ two-pow-succ (w - 1)
+twice w h = omega (arith, double w h)
 
 low-half : (w a : ℕ) → a < 2 ^ (w - 1) → negative w a ≡ false
 low-half w a h = simp (div-eq-of-lt h)

@@ -1,3 +1,4 @@
 pub mod First
 pub mod Build
 pub mod Fill
+pub mod Choice

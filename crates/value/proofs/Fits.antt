@@ -1,16 +1,18 @@
 -- Every operator's number lies below 2 ^ width: one proof a line of the table, by few shapes. Assumes nothing.
 use Prim.Native.Nat.{ℕ, zero, suc, _+_, _-_, _<_, _^_}
 use mathlib.Core.Path.{_≡_, refl, sym, subst}
-use mathlib.Core.Bool.{Bool, true, false, cond}
+use mathlib.Core.Bool.{cond}
 use mathlib.Core.List.{List, [], _∷_}
 use native.Mathlib.Nat.{not-suc-le-zero, le-of-suc-le-suc, add-zero, add-suc, suc-add, zero-add}
 use native.Mathlib.Omega.{arith}
 use borrow.Author.Tests.{eqb-true}
 use lib.Dec.{eqb, ltb, leb}
 use lib.ListN.{length, getD}
-use Rattle.arith.proofs.Fits.{add-fits, sub-fits, neg-fits, mul-fits, ite-fits, equal-fits, distinct-fits, ult-fits, ule-fits, ugt-fits, uge-fits, slt-fits, sle-fits, sgt-fits, sge-fits, extract-fits, concat-fits, zero-extend-fits, sign-extend-fits}
+use Rattle.arith.proofs.Fits.{add-fits, sub-fits, mul-fits, ite-fits, equal-fits, distinct-fits, ult-fits, ule-fits, ugt-fits, uge-fits, slt-fits, sle-fits, sgt-fits, sge-fits, extract-fits, concat-fits, zero-extend-fits, sign-extend-fits}
+use Rattle.bv.proofs.Fits.{neg-fits}
 use Rattle.bitwise.proofs.Fits.{not-fits, and-fits, or-fits, xor-fits, shl-fits, lshr-fits, ashr-fits, rotr-fits, rotl-fits}
 use Rattle.divide.proofs.Fits.{udiv-fits, urem-fits, sdiv-fits, srem-fits}
+use Rattle.lists.proofs.Choice.{taken}
 use Rattle.wf.specs.Rule.{same}
 use Rattle.value.specs.Val.{Val, wid, nat, arg, Fit}
 use Rattle.value.specs.Operate.{numbers, opWidth, operate}
@@ -30,14 +32,9 @@ module _ {A : Type 0} (P : ℕ → A → Type 0) where
   every-at : (d : A) (xs : List A) → Every P 0 xs → (k : ℕ) → k < length xs → P k (getD xs k d)
   every-at d xs e k h = rw zero-add at (every-from d xs 0 e k h)
 
--- a choice above 0 whose other branch is 0 is the first branch
-taken : (b : Bool) (v : ℕ) → 0 < cond b v 0 → (b ≡ true) × (cond b v 0 ≡ v)
-taken true v h = (refl, refl)
-taken false v h = absurd (omega arith)
-
 -- operands of one width: the rule's width is the one that it names
 even : (a b v : ℕ) → 0 < same a b v → (a ≡ b) × (same a b v ≡ v)
-even a b v h = let (t, e) = taken (eqb a b) v h in (eqb-true a b t, e)
+even a b v h = let (t, e) = taken (eqb a b) v (same a b v) refl h in (eqb-true a b t, sym e)
 
 module _ (vs : List Val) (fit : (j : ℕ) → Fit (arg vs j)) where
   -- two operands of one width w, and a number of that width
@@ -66,9 +63,9 @@ module _ (vs : List Val) (fit : (j : ℕ) → Fit (arg vs j)) where
   part : (i j : ℕ) → 0 < cond (leb j i) (cond (ltb i (wid (arg vs 0))) (i - j + 1) 0) 0 → (n : ℕ) → n < 2 ^ (i - j + 1)
       → n < 2 ^ cond (leb j i) (cond (ltb i (wid (arg vs 0))) (i - j + 1) 0) 0
   part i j h n l =
-      let (_, s) = taken (leb j i) _ h in
-      let (_, t) = taken (ltb i (wid (arg vs 0))) (i - j + 1) (rw s at h) in
-      rw (s, t) l
+      let (_, s) = taken (leb j i) _ _ refl h in
+      let (_, t) = taken (ltb i (wid (arg vs 0))) (i - j + 1) _ refl (rw (← s) at h) in
+      rw (← s, ← t) l
 
   choice : (c : ℕ) → 0 < same (wid (arg vs 0)) 1 (same (wid (arg vs 1)) (wid (arg vs 2)) (wid (arg vs 1)))
       → cond (eqb c 1) (nat (arg vs 1)) (nat (arg vs 2)) < 2 ^ same (wid (arg vs 0)) 1 (same (wid (arg vs 1)) (wid (arg vs 2)) (wid (arg vs 1)))

@@ -4,13 +4,13 @@ use mathlib.Core.Path.{_≡_, refl, sym, ap, _∙_, subst}
 use mathlib.Core.Bool.{Bool, true, false, cond}
 use mathlib.Core.List.{List, [], _∷_, map}
 use native.Mathlib.Decide.{decLt}
-use native.Mathlib.Nat.{not-suc-le-zero}
 use native.Mathlib.Omega.{arith}
 use borrow.Author.Tests.{eq-eqb, ne-eqb, eqb-true, eqb-false, le-leb, lt-ltb}
 use lib.Dec.{eqb}
 use lib.Pow.{pow-pos}
 use lib.ListN.{length, getD, List·getD-eq-default}
 use Rattle.bitwise.proofs.Digits.{ofBits-fits}
+use Rattle.lists.proofs.Choice.{strong}
 use Rattle.lists.proofs.Build.{build-length, build-at, build-stay}
 use Rattle.rows.specs.declared.Graph.the-variants.{Target}
 use Rattle.rows.specs.declared.Node.{Node}
@@ -115,14 +115,6 @@ module _ (bits side : List ℕ) (width : ℕ → ℕ) (look : ℕ → Val) (i : 
           let no : tagOf node ≡ tVar → ⊥ = eqb-false (tagOf node) tVar e in
           let w = core-width node g c no r in
           (w, operate-fits (tagOf node) (omega (arith, no)) c (parameters bits node) _ (fit-map look fits (operands node)) (const-fits node clean) (rw w (r .positive)))
-
--- strong induction: P holds at i where it holds at all below
-strong : (P : ℕ → Type 0) → ((i : ℕ) → ((j : ℕ) → j < i → P j) → P i) → (i : ℕ) → P i
-strong P step i = step i (below i)
-  where
-    below : (n j : ℕ) → j < n → P j
-    below Prim.Native.Nat.zero j h = absurd (not-suc-le-zero h)
-    below (Prim.Native.Nat.suc n) j h = step j (λ k l. below n k (omega arith))
 
 module _ (bits side g ws : List ℕ) (given : ℕ → ℕ) (formed : WellFormed Target (length bits) side g ws)
     (clean : (k : ℕ) → getD bits k 0 < 2) (core : (i : ℕ) → i < rowCount Target g → tagOf (nodeOf (rowAt Target g i)) < 37)

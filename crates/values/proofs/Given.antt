@@ -1,6 +1,6 @@
 -- What the answers that passed give of a target: it can be evaluated. Assumes nothing.
 use Prim.Native.Nat.{ℕ, _<_, _≤_, _^_}
-use mathlib.Core.Path.{_≡_, refl}
+use mathlib.Core.Path.{_≡_, refl, sym}
 use mathlib.Core.Bool.{Bool, true, false, cond}
 use mathlib.Core.List.{List, []}
 use native.Mathlib.Decide.{decLt}
@@ -11,6 +11,7 @@ use lib.ListN.{length, getD, List·getD-eq-default}
 use Rattle.answers.specs.declared.Answer.the-variants.{Accepted, Core, BadRow, BadBit, TooWide, ValueCount, ValueRange}
 use Rattle.answers.specs.Answer.{isAccepted}
 use Rattle.evaluate.specs.Ready.{Evaluable}
+use Rattle.lists.proofs.Choice.{no-way, both}
 use Rattle.lists.proofs.First.{first-before}
 use Rattle.lists.proofs.Build.{build-length}
 use Rattle.rows.specs.declared.Graph.the-variants.{Target}
@@ -25,23 +26,20 @@ use Rattle.wf.proofs.Promise.{well-formed}
 use Rattle.widths.specs.Widths.{rowsAnswer}
 use Rattle.values.specs.Values.{rowWide, wideRow, wordBad, badWord, givenAnswer}
 
-no-way : {P : Type 0} → false ≡ true → P
-no-way e = let z : _≡_ {A = ℕ} 0 1 = cc in absurd (omega arith)
-
 -- an accepted answer failed each of its tests
 rows-tests : (p q r : Bool) (a b d row : ℕ) → isAccepted (cond p (BadRow a d) (cond q (BadBit b d) (cond r (Core row) Accepted))) ≡ true
     → (p ≡ false) × (q ≡ false) × (r ≡ false)
-rows-tests true q r a b d row e = no-way e
-rows-tests false true r a b d row e = no-way e
-rows-tests false false true a b d row e = no-way e
+rows-tests true q r a b d row e = no-way (sym e)
+rows-tests false true r a b d row e = no-way (sym e)
+rows-tests false false true a b d row e = no-way (sym e)
 rows-tests false false false a b d row e = (refl, refl, refl)
 
 given-tests : (p q r : Bool) (a b d f : ℕ) → isAccepted (cond p (TooWide a) (cond q (cond r (ValueRange b) Accepted) (ValueCount d f))) ≡ true
     → (p ≡ false) × (q ≡ true) × (r ≡ false)
-given-tests true q r a b d f e = no-way e
-given-tests false true true a b d f e = no-way e
+given-tests true q r a b d f e = no-way (sym e)
+given-tests false true true a b d f e = no-way (sym e)
 given-tests false true false a b d f e = (refl, refl, refl)
-given-tests false false r a b d f e = no-way e
+given-tests false false r a b d f e = no-way (sym e)
 
 -- what holds below a length and at 0 holds of every entry of a list
 entries : (l : List ℕ) (P : ℕ → Type 0) → P 0 → ((k : ℕ) → k < length l → P (getD l k 0)) → (k : ℕ) → P (getD l k 0)
@@ -51,13 +49,9 @@ entries l P z h k = go (decLt k (length l))
     go (yes s) = h k s
     go (no s) = let past : length l ≤ k = omega arith in rw (List·getD-eq-default l 0 past) z
 
-and-left : (a b : Bool) → cond a b false ≡ true → a ≡ true
-and-left true b e = refl
-and-left false b e = e
-
 good-core : (g : List ℕ) (i : ℕ) → rowBad Target g i ≡ false → tagOf (nodeOf (rowAt Target g i)) < 37
 good-core g i e =
-    node-core (rowAt Target g i) (ltb-true (getD (rowAt Target g i) 0 0) 37 (and-left _ _ (not-false (rowGood Target (rowAt Target g i)) e)))
+    node-core (rowAt Target g i) (ltb-true (getD (rowAt Target g i) 0 0) 37 (both _ _ (not-false (rowGood Target (rowAt Target g i)) e) .0))
 
 module _ (g bits given : List ℕ) (rows : isAccepted (rowsAnswer Target g bits (illRow Target (length bits) [] g)) ≡ true)
     (words : isAccepted (givenAnswer g (widths Target (length bits) [] g) given) ≡ true) where

@@ -3,7 +3,6 @@ use Prim.Native.Nat.{ℕ, _-_, _<_, _≤_}
 use mathlib.Core.Path.{_≡_, refl, sym, ap, ap₂, _∙_}
 use mathlib.Core.Bool.{Bool, true, false, cond}
 use mathlib.Core.List.{List, [], _++_}
-use native.Mathlib.Omega.{arith}
 use borrow.Author.Tests.{lt-ltb, le-ltb}
 use lib.Dec.{eqb, ltb}
 use lib.ListN.{length, replicate}
@@ -11,6 +10,7 @@ use Rattle.answers.specs.declared.Answer.{Answer}
 use Rattle.answers.specs.declared.Answer.the-variants.{Accepted, Core, RowCount, BadRow, BadBit, WorkShort, TooWide, ValueCount, ValueRange}
 use Rattle.answers.specs.Answer.{lent, isAccepted}
 use Rattle.evaluate.proofs.Rows.{numbers-length}
+use Rattle.lists.proofs.Choice.{no-way}
 use Rattle.lists.proofs.Build.{build-length}
 use Rattle.rows.specs.declared.Graph.the-variants.{Target}
 use Rattle.rows.specs.Row.{rowCount, ragged}
@@ -18,9 +18,6 @@ use Rattle.rows.specs.Encoding.{badRow, badBit}
 use Rattle.wf.specs.Widths.{illRow, widths, rowWidth}
 use Rattle.widths.specs.Widths.{rowsAnswer}
 use Rattle.values.specs.Values.{wideRow, badWord, givenAnswer, valuesAnswer, numbersOf, out, values}
-
-pub no-way : {P : Type 0} → true ≡ false → P
-no-way e = let z : _≡_ {A = ℕ} 0 1 = cc in absurd (omega arith)
 
 -- a refusal for the rows, and one for the words given, zero a list
 pub rows-zero : (p q r : Bool) (a b d row : ℕ) (old new : List ℕ)

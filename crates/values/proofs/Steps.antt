@@ -11,6 +11,7 @@ use Rattle.answers.specs.declared.Answer.the-variants.{Accepted, Core, BadRow, 
 use Rattle.answers.specs.Answer.{lent, isAccepted}
 use Rattle.evaluate.specs.Ready.{numbersTo}
 use Rattle.evaluate.proofs.Rows.{numbers-front}
+use Rattle.lists.proofs.Choice.{no-way}
 use Rattle.lists.proofs.Build.{build-length, build-front}
 use Rattle.rows.specs.declared.Graph.the-variants.{Target}
 use Rattle.rows.specs.Row.{rowCount, ragged}
@@ -18,7 +19,7 @@ use Rattle.rows.specs.Encoding.{badRow, badBit}
 use Rattle.wf.specs.Widths.{illRow, widths, rowWidth}
 use Rattle.widths.specs.Widths.{Out, out, rowsAnswer, targetWidths}
 use Rattle.values.specs.Values.{numbersOf}
-use Rattle.values.proofs.Outcome.{rows-zero, no-way}
+use Rattle.values.proofs.Outcome.{rows-zero}
 
 rows-yes : (p q r : Bool) (a b d row : ℕ) → isAccepted (cond p (BadRow a d) (cond q (BadBit b d) (cond r (Core row) Accepted))) ≡ true
     → cond p (BadRow a d) (cond q (BadBit b d) (cond r (Core row) Accepted)) ≡ Accepted

@@ -8,6 +8,7 @@ use borrow.Author.Tests.{eqb-true, eqb-false, ltb-true, leb-true, leb-false, ne-
 use lib.Dec.{eqb, ltb, leb}
 use lib.ListN.{length, getD}
 use Rattle.lists.specs.First.{none}
+use Rattle.lists.proofs.Choice.{taken, both}
 use Rattle.lists.proofs.First.{first-before, none-at}
 use Rattle.lists.proofs.Build.{build-length, build-stay, build-at}
 use Rattle.rows.specs.declared.Graph.{Graph}
@@ -19,16 +20,6 @@ use Rattle.rows.specs.Node.{nodeOf, operands}
 use Rattle.wf.specs.Rule.{ceiling, capped, indexWidth, cellWidth, same, unWidth, binWidth, hasWidth, pairBad, argBad, entriesGood, chainGood, argsGood, rule, earlier, nodeWidth}
 use Rattle.wf.specs.Widths.{rowWidth, widthsTo, widths, rowIll, illRow}
 use Rattle.wf.specs.Promise.{Below, PairFormed, ArgFormed, BinFormed, Follows, RowFormed, WellFormed}
-
--- a choice whose other branch is 0 and that is above 0 was taken
-taken : (b : Bool) (v w : ℕ) → cond b v 0 ≡ w → 0 < w → (b ≡ true) × (v ≡ w)
-taken true v w e h = (refl, e)
-taken false v w e h = absurd (omega arith)
-
--- two tests joined by "and"
-both : (a b : Bool) → cond a b false ≡ true → (a ≡ true) × (b ≡ true)
-both true b e = (refl, e)
-both false b e = let z : _≡_ {A = ℕ} 0 1 = cc in absurd (omega arith)
 
 below : (n : ℕ) (l : List ℕ) → earlier l n ≡ true → Below n l
 below n [] e = tt
