@@ -7,17 +7,12 @@ use lib.ListN.{length, getD}
 use Rattle.rows.specs.declared.Graph.{Graph}
 use Rattle.rows.specs.declared.Graph.the-variants.{Source, Target}
 
--- "A target row is four words .. A source row has five"
-abbrev pub rowSize : Graph → ℕ
-rowSize Source = 5
-rowSize Target = 4
-
 -- "place 1 source, 2 target", "detail 1 or 2 for the graph"
 abbrev pub graphNumber : Graph → ℕ
 graphNumber Source = 1
 graphNumber Target = 2
 
--- how many whole rows a list of words holds
+-- "A target row is four words .. A source row has five": how many whole rows a list of words holds
 abbrev pub rowCount : Graph → List ℕ → ℕ
 rowCount Source g = length g / 5
 rowCount Target g = length g / 4
