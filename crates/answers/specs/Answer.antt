@@ -5,7 +5,7 @@ use mathlib.Core.List.{List, _++_}
 use lib.Dec.{eqb}
 use lib.ListN.{length, replicate}
 use Rattle.answers.specs.declared.Answer.{Answer}
-use Rattle.answers.specs.declared.Answer.the-variants.{Accepted, Ext, Core, RowCount, BadRow, BadBit, WorkShort, BadRoot, TooWide, ValueCount, ValueRange}
+use Rattle.answers.specs.declared.Answer.the-variants.{Accepted, Ext, Core, MapLength, MapOutOfRange, ReadTable, CallTable, VarClass, ConstMismatch, NodeMismatch, ChainMismatch, CallMismatch, RootMismatch, CongruenceMismatch, DeadEntry, RowCount, BadRow, BadBit, WorkShort, BadRoot, TooWide, ValueCount, ValueRange}
 use Rattle.answers.specs.declared.Words.{Words}
 
 abbrev pub words : ℕ → ℕ → ℕ → Words
@@ -16,6 +16,18 @@ abbrev pub wordsOf : Answer → Words
 wordsOf Accepted = words 0 0 0
 wordsOf (Ext row) = words 1 row 0
 wordsOf (Core row) = words 2 row 0
+wordsOf (MapLength expected found) = words 3 expected found
+wordsOf (MapOutOfRange row) = words 4 row 0
+wordsOf (ReadTable entry) = words 5 entry 0
+wordsOf (CallTable entry) = words 6 entry 0
+wordsOf (VarClass row) = words 7 row 0
+wordsOf (ConstMismatch row) = words 8 row 0
+wordsOf (NodeMismatch row) = words 9 row 0
+wordsOf (ChainMismatch row) = words 10 row 0
+wordsOf (CallMismatch row) = words 11 row 0
+wordsOf (RootMismatch position) = words 12 position 0
+wordsOf (CongruenceMismatch position) = words 13 position 0
+wordsOf (DeadEntry variable) = words 14 variable 0
 wordsOf (RowCount graph) = words 15 graph 0
 wordsOf (BadRow row graph) = words 16 row graph
 wordsOf (BadBit position graph) = words 17 position graph
@@ -38,6 +50,18 @@ abbrev pub lent : Answer → List ℕ → List ℕ → List ℕ
 lent Accepted old new = new ++ replicate (length old - length new) 0
 lent (Ext row) old new = replicate (length old) 0
 lent (Core row) old new = replicate (length old) 0
+lent (MapLength expected found) old new = replicate (length old) 0
+lent (MapOutOfRange row) old new = replicate (length old) 0
+lent (ReadTable entry) old new = replicate (length old) 0
+lent (CallTable entry) old new = replicate (length old) 0
+lent (VarClass row) old new = replicate (length old) 0
+lent (ConstMismatch row) old new = replicate (length old) 0
+lent (NodeMismatch row) old new = replicate (length old) 0
+lent (ChainMismatch row) old new = replicate (length old) 0
+lent (CallMismatch row) old new = replicate (length old) 0
+lent (RootMismatch position) old new = replicate (length old) 0
+lent (CongruenceMismatch position) old new = replicate (length old) 0
+lent (DeadEntry variable) old new = replicate (length old) 0
 lent (RowCount graph) old new = old
 lent (BadRow row graph) old new = replicate (length old) 0
 lent (BadBit position graph) old new = replicate (length old) 0

@@ -9,6 +9,26 @@ pub enum Answer {
     Ext(u64),
     // row of the target
     Core(u64),
+    // words expected, words found
+    MapLength(u64, u64),
+    // row of the source
+    MapOutOfRange(u64),
+    // entry of the read table
+    ReadTable(u64),
+    // entry of the call table
+    CallTable(u64),
+    // row of the source, 7 to 11
+    VarClass(u64),
+    ConstMismatch(u64),
+    NodeMismatch(u64),
+    ChainMismatch(u64),
+    CallMismatch(u64),
+    // position in the source's root list, or 0 for roots left over
+    RootMismatch(u64),
+    // position in the target's root list
+    CongruenceMismatch(u64),
+    // variable row of the target
+    DeadEntry(u64),
     // graph, 1 source or 2 target
     RowCount(u64),
     // row, graph
@@ -52,6 +72,66 @@ pub fn words_of(a: Answer) -> Words
         Answer::Core(row) => Words {
             number: 2,
             place: row,
+            detail: 0,
+        },
+        Answer::MapLength(expected, found) => Words {
+            number: 3,
+            place: expected,
+            detail: found,
+        },
+        Answer::MapOutOfRange(row) => Words {
+            number: 4,
+            place: row,
+            detail: 0,
+        },
+        Answer::ReadTable(entry) => Words {
+            number: 5,
+            place: entry,
+            detail: 0,
+        },
+        Answer::CallTable(entry) => Words {
+            number: 6,
+            place: entry,
+            detail: 0,
+        },
+        Answer::VarClass(row) => Words {
+            number: 7,
+            place: row,
+            detail: 0,
+        },
+        Answer::ConstMismatch(row) => Words {
+            number: 8,
+            place: row,
+            detail: 0,
+        },
+        Answer::NodeMismatch(row) => Words {
+            number: 9,
+            place: row,
+            detail: 0,
+        },
+        Answer::ChainMismatch(row) => Words {
+            number: 10,
+            place: row,
+            detail: 0,
+        },
+        Answer::CallMismatch(row) => Words {
+            number: 11,
+            place: row,
+            detail: 0,
+        },
+        Answer::RootMismatch(position) => Words {
+            number: 12,
+            place: position,
+            detail: 0,
+        },
+        Answer::CongruenceMismatch(position) => Words {
+            number: 13,
+            place: position,
+            detail: 0,
+        },
+        Answer::DeadEntry(variable) => Words {
+            number: 14,
+            place: variable,
             detail: 0,
         },
         Answer::RowCount(graph) => Words {

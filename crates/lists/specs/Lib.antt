@@ -1,2 +1,4 @@
 pub mod First
 pub mod Build
+pub mod Tests
+pub mod Trace

@@ -4,9 +4,10 @@ use mathlib.Core.Path.{_≡_, refl}
 use mathlib.Core.List.{List, [], _∷_}
 use lib.ListN.{getD, length}
 use Rattle.lists.specs.Build.{build}
+use Rattle.lists.specs.Trace.{tabulate}
 use Rattle.value.specs.Val.{val, nat, arg}
 use Rattle.value.specs.Operate.{operate}
-use Rattle.meaning.specs.Meaning.{Interpretation, sourceValues, stored, arguments}
+use Rattle.meaning.specs.Meaning.{Interpretation, sourceValues, stored}
 
 abbrev s5 : ℕ → ℕ → ℕ → ℕ → ℕ → List ℕ → List ℕ
 s5 t a b c d rest = t ∷ a ∷ b ∷ c ∷ d ∷ rest
@@ -23,11 +24,11 @@ model words =
 -- Var(32), Var(8), Var(8); Select(7,0) bare, through the pairs (0,1),(0,2), and Call(3,8) of row 1 and of nothing
 some-source : sourceValues (s5 0 32 0 0 0 (s5 0 8 0 0 0 (s5 0 8 0 0 0 (s5 37 7 0 0 0 (s5 37 7 0 0 2 (s5 38 3 8 1 1 (s5 38 3 8 9 0 []))))))) [] (0 ∷ 1 ∷ 0 ∷ 2 ∷ []) (model (5 ∷ 40 ∷ 50 ∷ [])) 7
     ≡ val 32 5 ∷ val 8 40 ∷ val 8 50 ∷ val 8 6 ∷ val 8 40 ∷ val 8 41 ∷ val 8 0 ∷ []
-unfolding build operate stored arguments
+unfolding build operate stored tabulate
 some-source = refl
 
 -- a pair whose index differs is passed over: Var(32) twice, Var(8), Select(7,1) through the pair (0,2)
 passed-over : sourceValues (s5 0 32 0 0 0 (s5 0 32 0 0 0 (s5 0 8 0 0 0 (s5 37 7 1 0 1 [])))) [] (0 ∷ 2 ∷ []) (model (5 ∷ 6 ∷ 50 ∷ [])) 4
     ≡ val 32 5 ∷ val 32 6 ∷ val 8 50 ∷ val 8 7 ∷ []
-unfolding build operate stored arguments
+unfolding build operate stored tabulate
 passed-over = refl

@@ -7,6 +7,7 @@ use mathlib.Core.List.{List, [], _∷_}
 use lib.Dec.{eqb}
 use lib.ListN.{length, getD}
 use Rattle.lists.specs.Build.{build}
+use Rattle.lists.specs.Trace.{tabulate}
 use Rattle.rows.specs.declared.Graph.the-variants.{Source}
 use Rattle.rows.specs.declared.Node.{Node}
 use Rattle.rows.specs.declared.Node.the-variants.{Var, Const, Un, Bin, Extract, Extend, Ite, Select, Call, Unknown}
@@ -35,11 +36,6 @@ stored look side x cell zero s = cell
 stored look side x cell (suc k) s =
     cond (eqb (nat (look (getD side s 0))) x) (nat (look (getD side (s + 1) 0))) (stored look side x cell k (s + 2))
 
--- the values of k arguments of the side list from s on
-unfoldable pub arguments : (ℕ → Val) → List ℕ → ℕ → ℕ → List Val
-arguments look side zero s = []
-arguments look side (suc k) s = look (getD side s 0) ∷ arguments look side k (s + 1)
-
 -- the value of source row i: core rows as in a target; "a Call has its function's value at its arguments"
 abbrev pub sourceNode : List ℕ → List ℕ → Interpretation → (ℕ → Val) → ℕ → Node → Val
 sourceNode bits side I look i (Var w) = nodeValue bits (I .variable) look i (Var w)
@@ -50,7 +46,7 @@ sourceNode bits side I look i (Extract h l a) = nodeValue bits (I .variable) loo
 sourceNode bits side I look i (Extend t a n) = nodeValue bits (I .variable) look i (Extend t a n)
 sourceNode bits side I look i (Ite c t e) = nodeValue bits (I .variable) look i (Ite c t e)
 sourceNode bits side I look i (Select a j s k) = val (cellWidth a) (stored look side (nat (look j)) (I .array a (nat (look j))) k s)
-sourceNode bits side I look i (Call f w s k) = val w (I .function f w (arguments look side k s))
+sourceNode bits side I look i (Call f w s k) = val w (I .function f w (tabulate (λ l. look (getD side (s + l) 0)) k))
 sourceNode bits side I look i Unknown = val 0 0
 
 abbrev pub sourceRow : List ℕ → List ℕ → List ℕ → Interpretation → ℕ → List Val → Val

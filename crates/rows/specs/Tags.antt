@@ -25,6 +25,9 @@ tSignExt = 17
 abbrev pub tIte : ℕ
 tIte = 18
 
+abbrev pub tEq : ℕ
+tEq = 19
+
 abbrev pub tNot : ℕ
 tNot = 29
 

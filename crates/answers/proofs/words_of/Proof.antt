@@ -36,6 +36,42 @@ enum-known-a-9 c = search needs
 enum-known-a-10 : tie.Need-enum-known-a-10
 enum-known-a-10 c = search needs
 
+enum-known-a-11 : tie.Need-enum-known-a-11
+enum-known-a-11 c = search needs
+
+enum-known-a-12 : tie.Need-enum-known-a-12
+enum-known-a-12 c = search needs
+
+enum-known-a-13 : tie.Need-enum-known-a-13
+enum-known-a-13 c = search needs
+
+enum-known-a-14 : tie.Need-enum-known-a-14
+enum-known-a-14 c = search needs
+
+enum-known-a-15 : tie.Need-enum-known-a-15
+enum-known-a-15 c = search needs
+
+enum-known-a-16 : tie.Need-enum-known-a-16
+enum-known-a-16 c = search needs
+
+enum-known-a-17 : tie.Need-enum-known-a-17
+enum-known-a-17 c = search needs
+
+enum-known-a-18 : tie.Need-enum-known-a-18
+enum-known-a-18 c = search needs
+
+enum-known-a-19 : tie.Need-enum-known-a-19
+enum-known-a-19 c = search needs
+
+enum-known-a-20 : tie.Need-enum-known-a-20
+enum-known-a-20 c = search needs
+
+enum-known-a-21 : tie.Need-enum-known-a-21
+enum-known-a-21 c = search needs
+
+enum-known-a-22 : tie.Need-enum-known-a-22
+enum-known-a-22 c = search needs
+
 returns : tie.Need-returns
 returns c = rw (c .enum-told .given .1)
 
@@ -69,6 +105,42 @@ returns-10 c = rw (c .before .a9 .given .1)
 returns-11 : tie.Need-returns-11
 returns-11 c = rw (c .before .a10 .given .1)
 
+returns-12 : tie.Need-returns-12
+returns-12 c = rw (c .before .a11 .given .1)
+
+returns-13 : tie.Need-returns-13
+returns-13 c = rw (c .before .a12 .given .1)
+
+returns-14 : tie.Need-returns-14
+returns-14 c = rw (c .before .a13 .given .1)
+
+returns-15 : tie.Need-returns-15
+returns-15 c = rw (c .before .a14 .given .1)
+
+returns-16 : tie.Need-returns-16
+returns-16 c = rw (c .before .a15 .given .1)
+
+returns-17 : tie.Need-returns-17
+returns-17 c = rw (c .before .a16 .given .1)
+
+returns-18 : tie.Need-returns-18
+returns-18 c = rw (c .before .a17 .given .1)
+
+returns-19 : tie.Need-returns-19
+returns-19 c = rw (c .before .a18 .given .1)
+
+returns-20 : tie.Need-returns-20
+returns-20 c = rw (c .before .a19 .given .1)
+
+returns-21 : tie.Need-returns-21
+returns-21 c = rw (c .before .a20 .given .1)
+
+returns-22 : tie.Need-returns-22
+returns-22 c = rw (c .before .a21 .given .1)
+
+returns-23 : tie.Need-returns-23
+returns-23 c = rw (c .before .a22 .given .1)
+
 pub words-of-spec : {M : Type 1} → statement M
 words-of-spec =
     tie.close
@@ -84,6 +156,18 @@ words-of-spec =
     enum-known-a-8
     enum-known-a-9
     enum-known-a-10
+    enum-known-a-11
+    enum-known-a-12
+    enum-known-a-13
+    enum-known-a-14
+    enum-known-a-15
+    enum-known-a-16
+    enum-known-a-17
+    enum-known-a-18
+    enum-known-a-19
+    enum-known-a-20
+    enum-known-a-21
+    enum-known-a-22
     returns
     returns-2
     returns-3
@@ -94,4 +178,16 @@ words-of-spec =
     returns-8
     returns-9
     returns-10
-    returns-11)
+    returns-11
+    returns-12
+    returns-13
+    returns-14
+    returns-15
+    returns-16
+    returns-17
+    returns-18
+    returns-19
+    returns-20
+    returns-21
+    returns-22
+    returns-23)

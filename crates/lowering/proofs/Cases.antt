@@ -1,0 +1,133 @@
+-- 01's marked cases, computed of the definitions: the twelve, with their variants, and a few more of our own. Assumes nothing.
+use Prim.Native.Nat.{ℕ}
+use mathlib.Core.Path.{_≡_, refl}
+use mathlib.Core.List.{List, [], _∷_}
+use Rattle.answers.specs.declared.Words.{Words}
+use Rattle.answers.specs.declared.Answer.the-variants.{Accepted, ChainMismatch, WorkShort}
+use Rattle.answers.specs.Answer.{words, wordsOf}
+use Rattle.bv.specs.Bits.{ofBits}
+use Rattle.bv.specs.Bv.{bvsdiv, bvsrem, bvrotr, rotate-right}
+use Rattle.lists.specs.Build.{build}
+use Rattle.lists.specs.First.{first}
+use Rattle.lists.specs.Tests.{all, agree}
+use Rattle.lists.specs.Trace.{trace}
+use Rattle.lowering.specs.Images.{MAX, rowIs, bothConst, sameConst, unequalConst}
+use Rattle.lowering.specs.Tables.{sameRead, sameFunction, sameCall, readGood, callGood}
+use Rattle.lowering.specs.Matching.{isEq, isLevel, walk, endGood, callMatches, varMatches, nodeMatches, rowAnswer, rowClasses}
+use Rattle.lowering.specs.Roots.{leads, pairsWith, pairs, readsNeed, allEqual, congruent, rootAt}
+use Rattle.lowering.specs.Check.{Lowering, Outcome, firstRefusal, check, checkAnswer}
+
+-- rows, one after the other
+abbrev s5 : ℕ → ℕ → ℕ → ℕ → ℕ → List ℕ → List ℕ
+s5 t a b c d rest = t ∷ a ∷ b ∷ c ∷ d ∷ rest
+
+abbrev t4 : ℕ → ℕ → ℕ → ℕ → List ℕ → List ℕ
+t4 t a b c rest = t ∷ a ∷ b ∷ c ∷ rest
+
+abbrev lowering : List ℕ → List ℕ → List ℕ → List ℕ → List ℕ → List ℕ → List ℕ → List ℕ → List ℕ → List ℕ → List ℕ → Lowering
+lowering source ebits eside eroots map reads calls cargs target tbits troots =
+    record { source = source; ebits = ebits; eside = eside; eroots = eroots; map = map; reads = reads; calls = calls; cargs = cargs; target = target; tbits = tbits; troots = troots }
+
+-- the answer with room for twenty words in each list
+abbrev answer : Lowering → Words
+answer L = wordsOf (checkAnswer L 20 20 20 20)
+
+abbrev accepted : Words
+accepted = words 0 0 0
+
+-- "Base: source Var(32), Select(7,0,0,0), Eq(1,1), roots [2]; target Var(32), Var(8), Eq(1,1), roots [2]; map [0,1,2]; reads [1,7,0]"
+abbrev base : List ℕ → List ℕ → List ℕ → List ℕ → Lowering
+base eroots map reads troots =
+    lowering (s5 0 32 0 0 0 (s5 37 7 0 0 0 (s5 19 1 1 0 0 []))) [] [] eroots map reads [] [] (t4 0 32 0 0 (t4 0 8 0 0 (t4 19 1 1 0 []))) [] troots
+
+abbrev nines : List ℕ
+nines = 9 ∷ 9 ∷ 9 ∷ 9 ∷ []
+
+abbrev outcome : Lowering → List ℕ → Outcome
+outcome L entries = check L nines nines nines entries
+
+-- 1. "Base: accepted, classes 1,4,0", with all four lists; then a refusal that zeroes them and one that writes nothing
+cases-1 : outcome (base (2 ∷ []) (0 ∷ 1 ∷ 2 ∷ []) (1 ∷ 7 ∷ 0 ∷ []) (2 ∷ [])) nines
+    ∷ outcome (base (2 ∷ []) (0 ∷ 1 ∷ 2 ∷ []) [] (2 ∷ [])) nines
+    ∷ outcome (base (2 ∷ []) (0 ∷ 1 ∷ 2 ∷ []) (1 ∷ 7 ∷ 0 ∷ []) (2 ∷ [])) (9 ∷ 9 ∷ [])
+    ∷ []
+    ≡ record { answer = Accepted; source-widths = 32 ∷ 8 ∷ 1 ∷ 0 ∷ []; target-widths = 32 ∷ 8 ∷ 1 ∷ 0 ∷ []; class-list = 1 ∷ 4 ∷ 0 ∷ 0 ∷ []; entry-list = 0 ∷ 0 ∷ 0 ∷ 0 ∷ [] }
+    ∷ record { answer = ChainMismatch 1; source-widths = 0 ∷ 0 ∷ 0 ∷ 0 ∷ []; target-widths = 0 ∷ 0 ∷ 0 ∷ 0 ∷ []; class-list = 0 ∷ 0 ∷ 0 ∷ 0 ∷ []; entry-list = 0 ∷ 0 ∷ 0 ∷ 0 ∷ [] }
+    ∷ record { answer = WorkShort 4; source-widths = nines; target-widths = nines; class-list = nines; entry-list = 9 ∷ 9 ∷ [] }
+    ∷ []
+unfolding firstRefusal build first all agree trace rowIs bothConst sameConst unequalConst sameRead sameFunction sameCall readGood callGood isEq isLevel walk endGood callMatches varMatches nodeMatches rowAnswer rowClasses leads pairsWith pairs readsNeed allEqual congruent rootAt
+cases-1 = refl
+
+-- 2. "Map [0,1,MAX]: 12." 3. "Map [0,MAX,MAX], no roots: 14 at 1." 4. "No reads: 10 at 1." 5. "Reads [1,7,0,1,7,0]: 5 at 1."
+-- 6. "Map [0,1]: 3, expected 3, found 2. Map [0,1,3]: 4 at 2." 7. "Target roots [2,2]: 12."
+cases-2-to-7 : answer (base (2 ∷ []) (0 ∷ 1 ∷ MAX ∷ []) (1 ∷ 7 ∷ 0 ∷ []) (2 ∷ []))
+    ∷ answer (base [] (0 ∷ MAX ∷ MAX ∷ []) (1 ∷ 7 ∷ 0 ∷ []) [])
+    ∷ answer (base (2 ∷ []) (0 ∷ 1 ∷ 2 ∷ []) [] (2 ∷ []))
+    ∷ answer (base (2 ∷ []) (0 ∷ 1 ∷ 2 ∷ []) (1 ∷ 7 ∷ 0 ∷ 1 ∷ 7 ∷ 0 ∷ []) (2 ∷ []))
+    ∷ answer (base (2 ∷ []) (0 ∷ 1 ∷ []) (1 ∷ 7 ∷ 0 ∷ []) (2 ∷ []))
+    ∷ answer (base (2 ∷ []) (0 ∷ 1 ∷ 3 ∷ []) (1 ∷ 7 ∷ 0 ∷ []) (2 ∷ []))
+    ∷ answer (base (2 ∷ []) (0 ∷ 1 ∷ 2 ∷ []) (1 ∷ 7 ∷ 0 ∷ []) (2 ∷ 2 ∷ []))
+    ∷ []
+    ≡ words 12 0 0 ∷ words 14 1 0 ∷ words 10 1 0 ∷ words 5 1 0 ∷ words 3 3 2 ∷ words 4 2 0 ∷ words 12 0 0 ∷ []
+unfolding firstRefusal build first all agree trace rowIs bothConst sameConst unequalConst sameRead sameFunction sameCall readGood callGood isEq isLevel walk endGood callMatches varMatches nodeMatches rowAnswer rowClasses leads pairsWith pairs readsNeed allEqual congruent rootAt
+cases-2-to-7 = refl
+
+-- the place of 12: the second root differs, finds the target's list ended, is past the rows where the target holds MAX
+cases-12 : answer (base (2 ∷ 2 ∷ []) (0 ∷ 1 ∷ 2 ∷ []) (1 ∷ 7 ∷ 0 ∷ []) (2 ∷ 0 ∷ []))
+    ∷ answer (base (2 ∷ 2 ∷ []) (0 ∷ 1 ∷ 2 ∷ []) (1 ∷ 7 ∷ 0 ∷ []) (2 ∷ []))
+    ∷ answer (base (2 ∷ 3 ∷ []) (0 ∷ 1 ∷ 2 ∷ []) (1 ∷ 7 ∷ 0 ∷ []) (2 ∷ MAX ∷ []))
+    ∷ []
+    ≡ words 12 1 0 ∷ words 12 1 0 ∷ words 12 1 0 ∷ []
+unfolding firstRefusal build first all agree trace rowIs bothConst sameConst unequalConst sameRead sameFunction sameCall readGood callGood isEq isLevel walk endGood callMatches varMatches nodeMatches rowAnswer rowClasses leads pairsWith pairs readsNeed allEqual congruent rootAt
+cases-12 = refl
+
+-- 8. "Source Var(32) twice, Select(7,0,0,0), Select(7,1,0,0), no roots; target Var(32) twice, Var(8) twice, Eq(0,1), Not(4), Eq(2,3), BoolOr(5,6);
+-- map [0,1,2,3]; reads [2,7,0,3,7,1]. Target roots [7]: accepted; []: 13 at 0"; the two index rows and their bits are given
+abbrev two-reads : (List ℕ → List ℕ) → List ℕ → (List ℕ → List ℕ) → List ℕ → List ℕ → Lowering
+two-reads srows ebits trows tbits troots =
+    lowering (srows (s5 37 7 0 0 0 (s5 37 7 1 0 0 []))) ebits [] [] (0 ∷ 1 ∷ 2 ∷ 3 ∷ []) (2 ∷ 7 ∷ 0 ∷ 3 ∷ 7 ∷ 1 ∷ []) [] []
+    (trows (t4 0 8 0 0 (t4 0 8 0 0 (t4 19 0 1 0 (t4 29 4 0 0 (t4 19 2 3 0 (t4 31 5 6 0 []))))))) tbits troots
+
+abbrev with-variables : List ℕ → Lowering
+with-variables troots = two-reads (λ m. s5 0 32 0 0 0 (s5 0 32 0 0 0 m)) [] (λ m. t4 0 32 0 0 (t4 0 32 0 0 m)) [] troots
+
+cases-8 : answer (with-variables (7 ∷ [])) ∷ answer (with-variables []) ∷ [] ≡ accepted ∷ words 13 0 0 ∷ []
+unfolding firstRefusal build first all agree trace rowIs bothConst sameConst unequalConst sameRead sameFunction sameCall readGood callGood isEq isLevel walk endGood callMatches varMatches nodeMatches rowAnswer rowClasses leads pairsWith pairs readsNeed allEqual congruent rootAt
+cases-8 = refl
+
+-- 9. "Case 8 with unequal constant indices on both sides: [] accepted, [7] gives 12. Equal constants: [] gives 13 at 0"
+abbrev with-constants : List ℕ → List ℕ → Lowering
+with-constants bits troots = two-reads (λ m. s5 1 0 32 0 0 (s5 1 32 32 0 0 m)) bits (λ m. t4 1 0 32 0 (t4 1 32 32 0 m)) bits troots
+
+abbrev zeros31 : List ℕ → List ℕ
+zeros31 l =
+    0 ∷ 0 ∷ 0 ∷ 0 ∷ 0 ∷ 0 ∷ 0 ∷ 0 ∷ 0 ∷ 0 ∷ 0 ∷ 0 ∷ 0 ∷ 0 ∷ 0 ∷ 0 ∷ 0 ∷ 0 ∷ 0 ∷ 0 ∷ 0 ∷ 0 ∷ 0 ∷ 0 ∷ 0 ∷ 0 ∷ 0 ∷ 0 ∷ 0 ∷ 0 ∷ 0 ∷ l
+
+abbrev bits64 : ℕ → ℕ → List ℕ
+bits64 a b = a ∷ zeros31 (b ∷ zeros31 [])
+
+cases-9 : answer (with-constants (bits64 0 1) []) ∷ answer (with-constants (bits64 0 1) (7 ∷ [])) ∷ answer (with-constants (bits64 1 1) []) ∷ []
+    ≡ accepted ∷ words 12 0 0 ∷ words 13 0 0 ∷ []
+unfolding firstRefusal build first all agree trace rowIs bothConst sameConst unequalConst sameRead sameFunction sameCall readGood callGood isEq isLevel walk endGood callMatches varMatches nodeMatches rowAnswer rowClasses leads pairsWith pairs readsNeed allEqual congruent rootAt
+cases-9 = refl
+
+-- 10. "Source Var(32) twice, Var(8), Select(7,1,0,1), pair (0,2); target Var(32) twice, Var(8) twice, Eq(0,1), Ite(4,2,3); map [0,1,2,5];
+-- reads [3,7,1]; no roots: accepted. With Eq(1,0): 10 at 3"
+abbrev one-store : ℕ → ℕ → Lowering
+one-store a b =
+    lowering (s5 0 32 0 0 0 (s5 0 32 0 0 0 (s5 0 8 0 0 0 (s5 37 7 1 0 1 [])))) [] (0 ∷ 2 ∷ []) [] (0 ∷ 1 ∷ 2 ∷ 5 ∷ []) (3 ∷ 7 ∷ 1 ∷ []) [] []
+    (t4 0 32 0 0 (t4 0 32 0 0 (t4 0 8 0 0 (t4 0 8 0 0 (t4 19 a b 0 (t4 18 4 2 3 [])))))) [] []
+
+cases-10 : answer (one-store 0 1) ∷ answer (one-store 1 0) ∷ [] ≡ accepted ∷ words 10 3 0 ∷ []
+unfolding firstRefusal build first all agree trace rowIs bothConst sameConst unequalConst sameRead sameFunction sameCall readGood callGood isEq isLevel walk endGood callMatches varMatches nodeMatches rowAnswer rowClasses leads pairsWith pairs readsNeed allEqual congruent rootAt
+cases-10 = refl
+
+-- 11. "Two Call(3,8,0,0), target Var(8), map [0,0], calls [0,3,0,0]: accepted"
+case-11 : answer (lowering (s5 38 3 8 0 0 (s5 38 3 8 0 0 [])) [] [] [] (0 ∷ 0 ∷ []) [] (0 ∷ 3 ∷ 0 ∷ 0 ∷ []) [] (t4 0 8 0 0 []) [] []) ≡ accepted
+unfolding firstRefusal build first all agree trace rowIs bothConst sameConst unequalConst sameRead sameFunction sameCall readGood callGood isEq isLevel walk endGood callMatches varMatches nodeMatches rowAnswer rowClasses leads pairsWith pairs readsNeed allEqual congruent rootAt
+case-11 = refl
+
+-- 12. "Width 8: Sdiv(128,255)=128, Sdiv(200,0)=1, Sdiv(5,0)=255, Srem(249,2)=255, Rotr(1,9)=128"
+case-12 : bvsdiv 8 128 255 ∷ bvsdiv 8 200 0 ∷ bvsdiv 8 5 0 ∷ bvsrem 8 249 2 ∷ bvrotr 8 1 9 ∷ [] ≡ 128 ∷ 1 ∷ 255 ∷ 255 ∷ 128 ∷ []
+unfolding rotate-right ofBits
+case-12 = refl

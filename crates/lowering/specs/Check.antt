@@ -1,0 +1,177 @@
+-- The operation Check (01, 'Operations and what they refuse'): its answer, and the four lists that it leaves. Assumes nothing.
+use Prim.Native.Nat.{ℕ, _+_}
+use mathlib.Core.Path.{_≡_}
+use mathlib.Core.Bool.{Bool, true, not, cond}
+use mathlib.Core.List.{List, [], _∷_, _++_}
+use lib.Dec.{eqb, ltb}
+use lib.ListN.{length, replicate}
+use Rattle.answers.specs.declared.Answer.{Answer}
+use Rattle.answers.specs.declared.Answer.the-variants.{Accepted, Ext, Core, RowCount, BadRow, BadBit, WorkShort, MapLength, ReadTable, CallTable, DeadEntry, RootMismatch, CongruenceMismatch}
+use Rattle.answers.specs.Answer.{isAccepted, lent}
+use Rattle.lists.specs.First.{first}
+use Rattle.rows.specs.declared.Graph.the-variants.{Source, Target}
+use Rattle.rows.specs.Row.{rowCount, ragged}
+use Rattle.rows.specs.Encoding.{badRow, badBit}
+use Rattle.wf.specs.Widths.{illRow, widths}
+use Rattle.lowering.specs.Tables.{readCount, callCount, badRead, badCall, readClasses, callClasses, readOffsets, callOffsets}
+use Rattle.lowering.specs.Matching.{rowAnswer, classesTo, deadEntry}
+use Rattle.lowering.specs.Roots.{Pair, badLead, readPairs, callPairs, readRoot, callRoot, badCong}
+
+-- what Check is asked: the eleven lists of `check_sliver_lowering`, in its order (its `e` and `t` are the source and the target)
+pub record Lowering : Type 0 where
+  pub source : List ℕ
+  pub ebits : List ℕ
+  pub eside : List ℕ
+  pub eroots : List ℕ
+  pub map : List ℕ
+  pub reads : List ℕ
+  pub calls : List ℕ
+  pub cargs : List ℕ
+  pub target : List ℕ
+  pub tbits : List ℕ
+  pub troots : List ℕ
+
+module _ (L : Lowering) where
+  abbrev pub sourceRows : ℕ
+  sourceRows = rowCount Source (L .source)
+
+  abbrev pub targetRows : ℕ
+  targetRows = rowCount Target (L .target)
+
+  abbrev pub sourceIll : ℕ
+  sourceIll = illRow Source (length (L .ebits)) (L .eside) (L .source)
+
+  abbrev pub targetIll : ℕ
+  targetIll = illRow Target (length (L .tbits)) [] (L .target)
+
+  abbrev pub sourceWidths : List ℕ
+  sourceWidths = widths Source (length (L .ebits)) (L .eside) (L .source)
+
+  abbrev pub targetWidths : List ℕ
+  targetWidths = widths Target (length (L .tbits)) [] (L .target)
+
+  -- "Each target row has a class, first 0": classes before the calls, before the rows, before row n
+  abbrev pub noClasses : List ℕ
+  noClasses = replicate targetRows 0
+
+  abbrev pub classesOfReads : List ℕ
+  classesOfReads = readClasses (L .reads) noClasses (readCount (L .reads))
+
+  abbrev pub classesOfTables : List ℕ
+  classesOfTables = callClasses (L .calls) classesOfReads (callCount (L .calls))
+
+  abbrev pub classes : ℕ → List ℕ
+  classes n = classesTo (L .source) (L .ebits) (L .eside) (L .map) (L .target) classesOfTables n
+
+  abbrev pub offsets : List ℕ
+  offsets = callOffsets (L .calls) (readOffsets (L .reads) (replicate targetRows 0) (readCount (L .reads))) (callCount (L .calls))
+
+  abbrev pub badReadEntry : ℕ
+  badReadEntry = badRead (L .reads) (L .target) targetWidths noClasses
+
+  abbrev pub badCallEntry : ℕ
+  badCallEntry = badCall (L .calls) (L .cargs) (L .target) classesOfReads
+
+  -- the answer of row i, and the first row that is refused
+  abbrev pub answerOf : ℕ → Answer
+  answerOf i =
+      rowAnswer (L .source) (L .ebits) (L .eside) (L .map) (L .reads) (L .calls) (L .cargs) (L .target) (L .tbits) offsets (classes i) i
+
+  abbrev pub mismatch : ℕ
+  mismatch = first (λ i. not (isAccepted (answerOf i))) sourceRows
+
+  abbrev pub deadVariable : ℕ
+  deadVariable = deadEntry (classes sourceRows) targetRows
+
+  abbrev pub badLeadRoot : ℕ
+  badLeadRoot = badLead (L .map) (L .eroots) (L .troots)
+
+  abbrev pub pairsOfReads : List Pair
+  pairsOfReads = readPairs (L .reads) (L .target) (L .tbits)
+
+  abbrev pub pairsOfCalls : List Pair
+  pairsOfCalls = callPairs (L .calls)
+
+  -- where the roots of the calls' pairs begin, and where all roots end
+  abbrev pub callRoots : ℕ
+  callRoots = length (L .eroots) + length pairsOfReads
+
+  abbrev pub rootsEnd : ℕ
+  rootsEnd = callRoots + length pairsOfCalls
+
+  abbrev pub badReadRoot : ℕ
+  badReadRoot = badCong (L .troots) (readRoot (L .reads) (L .target)) (length (L .eroots)) pairsOfReads
+
+  abbrev pub badCallRoot : ℕ
+  badCallRoot = badCong (L .troots) (callRoot (L .calls) (L .cargs) (L .target)) callRoots pairsOfCalls
+
+-- a refusal where a test passes
+abbrev pub refuse : Bool → Answer → Answer
+refuse b a = cond b a Accepted
+
+-- the first refusal of some answers, in their order
+unfoldable pub firstRefusal : List Answer → Answer
+firstRefusal [] = Accepted
+firstRefusal (a ∷ more) = cond (isAccepted a) (firstRefusal more) a
+
+-- "15 RowCount: a graph's word count is no multiple of its row (place 1 source, 2 target). 18 WorkShort: a work list is shorter than its graph
+-- (1 source widths, 2 target widths, 3 classes, 4 entries). 16 BadRow .. 17 BadBit .. where one has two causes, the source or lower list goes first"
+abbrev pub shapeAnswers : Lowering → ℕ → ℕ → ℕ → ℕ → List Answer
+shapeAnswers L w0 w1 c e =
+    refuse (ragged Source (L .source)) (RowCount 1)
+    ∷ refuse (ragged Target (L .target)) (RowCount 2)
+    ∷ refuse (ltb w0 (sourceRows L)) (WorkShort 1)
+    ∷ refuse (ltb w1 (targetRows L)) (WorkShort 2)
+    ∷ refuse (ltb c (targetRows L)) (WorkShort 3)
+    ∷ refuse (ltb e (targetRows L)) (WorkShort 4)
+    ∷ refuse (ltb (badRow Source (L .source)) (sourceRows L)) (BadRow (badRow Source (L .source)) 1)
+    ∷ refuse (ltb (badRow Target (L .target)) (targetRows L)) (BadRow (badRow Target (L .target)) 2)
+    ∷ refuse (ltb (badBit (L .ebits)) (length (L .ebits))) (BadBit (badBit (L .ebits)) 1)
+    ∷ refuse (ltb (badBit (L .tbits)) (length (L .tbits))) (BadBit (badBit (L .tbits)) 2)
+    ∷ []
+
+-- "Then 1 Ext (row); 2 Core (row); 3 MapLength (expected, found); 5 ReadTable (entry); 6 CallTable (entry) .. Then by row 4 .. 11. Then 14 DeadEntry
+-- (first variable); 12 RootMismatch; 13 CongruenceMismatch (position in the target root list, possibly its length); 12 for surplus roots."
+-- The place of 12 is the position of the first source root that has no image, differs or finds the list ended; roots left over have none
+abbrev pub matchAnswers : Lowering → List Answer
+matchAnswers L =
+    refuse (ltb (sourceIll L) (sourceRows L)) (Ext (sourceIll L))
+    ∷ refuse (ltb (targetIll L) (targetRows L)) (Core (targetIll L))
+    ∷ refuse (not (eqb (length (L .map)) (sourceRows L))) (MapLength (sourceRows L) (length (L .map)))
+    ∷ refuse (ltb (badReadEntry L) (readCount (L .reads))) (ReadTable (badReadEntry L))
+    ∷ refuse (ltb (badCallEntry L) (callCount (L .calls))) (CallTable (badCallEntry L))
+    ∷ refuse (ltb (mismatch L) (sourceRows L)) (answerOf L (mismatch L))
+    ∷ refuse (ltb (deadVariable L) (targetRows L)) (DeadEntry (deadVariable L))
+    ∷ refuse (ltb (badLeadRoot L) (length (L .eroots))) (RootMismatch (badLeadRoot L))
+    ∷ refuse (ltb (badReadRoot L) (length (pairsOfReads L))) (CongruenceMismatch (length (L .eroots) + badReadRoot L))
+    ∷ refuse (ltb (badCallRoot L) (length (pairsOfCalls L))) (CongruenceMismatch (callRoots L + badCallRoot L))
+    ∷ refuse (not (eqb (length (L .troots)) (rootsEnd L))) (RootMismatch 0)
+    ∷ []
+
+-- the answer, with room for some words in each of the four lists
+abbrev pub checkAnswer : Lowering → ℕ → ℕ → ℕ → ℕ → Answer
+checkAnswer L w0 w1 c e = firstRefusal (shapeAnswers L w0 w1 c e ++ matchAnswers L)
+
+-- an answer and what stands in the four lent lists afterwards
+pub record Outcome : Type 0 where
+  pub answer : Answer
+  pub source-widths : List ℕ
+  pub target-widths : List ℕ
+  pub class-list : List ℕ
+  pub entry-list : List ℕ
+
+-- "15 and 18 write nothing; any other refusal zeroes all four lists. Acceptance leaves widths, classes and entry offsets .., zeros after the last row"
+abbrev pub check : Lowering → List ℕ → List ℕ → List ℕ → List ℕ → Outcome
+check L ws0 ws1 cls ent =
+    let a = checkAnswer L (length ws0) (length ws1) (length cls) (length ent) in
+    record {
+      answer = a;
+      source-widths = lent a ws0 (sourceWidths L);
+      target-widths = lent a ws1 (targetWidths L);
+      class-list = lent a cls (classes L (sourceRows L));
+      entry-list = lent a ent (offsets L);
+    }
+
+-- "The checker accepts when Check's number is 0"
+abbrev pub Accepts : Lowering → List ℕ → List ℕ → List ℕ → List ℕ → Type 0
+Accepts L ws0 ws1 cls ent = isAccepted (check L ws0 ws1 cls ent .answer) ≡ true

@@ -1,0 +1,5 @@
+pub mod Images
+pub mod Tables
+pub mod Matching
+pub mod Roots
+pub mod Check
