@@ -5,13 +5,13 @@ use mathlib.Core.Bool.{Bool, true, false, cond, not}
 use mathlib.Core.List.{List, [], _∷_}
 use native.Mathlib.Nat.{not-suc-le-zero}
 use native.Mathlib.Omega.{arith}
-use borrow.Author.Tests.{eqb-true, not-false}
+use borrow.Author.Tests.{eq-eqb, eqb-true, not-false}
 use lib.Dec.{eqb}
 use lib.ListN.{length}
 use Rattle.lists.specs.First.{none}
 use Rattle.lists.specs.Tests.{all, agree}
 use Rattle.lists.specs.Trace.{tabulate}
-use Rattle.lists.proofs.First.{none-at}
+use Rattle.lists.proofs.First.{none-at, none-yes}
 use Rattle.lists.proofs.Choice.{both}
 
 -- each test of a list passes
@@ -27,6 +27,10 @@ all-true (b ∷ more) e = let (x, y) = both b (all more) e in (x, all-true more 
 pub agree-at : (f g : ℕ → ℕ) (n : ℕ) → agree f g n ≡ true → (k : ℕ) → k < n → f k ≡ g k
 unfolding agree
 agree-at f g n e k h = eqb-true (f k) (g k) (not-false _ (none-at (λ j. not (eqb (f j) (g j))) n e k h))
+
+pub agree-yes : (f g : ℕ → ℕ) (n : ℕ) → ((k : ℕ) → k < n → f k ≡ g k) → agree f g n ≡ true
+unfolding agree
+agree-yes f g n h = none-yes (λ j. not (eqb (f j) (g j))) n (λ k l. ap not (eq-eqb (f k) (g k) (h k l)))
 
 -- a table of equal values, and back
 pub tabulate-same : {A : Type 0} (f g : ℕ → A) (n : ℕ) → ((k : ℕ) → k < n → f k ≡ g k) → tabulate f n ≡ tabulate g n

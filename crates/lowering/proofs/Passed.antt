@@ -2,7 +2,6 @@
 use Prim.Native.Nat.{ℕ, _+_, _<_, _≤_}
 use mathlib.Core.Path.{_≡_}
 use mathlib.Core.Bool.{true, false}
-use mathlib.Core.List.{List}
 use lib.ListN.{length, getD}
 use Rattle.answers.specs.Answer.{isAccepted}
 use Rattle.rows.specs.declared.Graph.the-variants.{Source, Target}

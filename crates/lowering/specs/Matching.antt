@@ -1,12 +1,11 @@
 -- How a source row is matched with its image, and the classes that follow (01, 'How a row is matched'). Assumes nothing.
 use Prim.Native.Nat.{ℕ, zero, suc, _+_}
-use mathlib.Core.Bool.{Bool, true, false, cond, not}
+use mathlib.Core.Bool.{Bool, false, cond}
 use mathlib.Core.List.{List, [], _∷_}
 use lib.Dec.{eqb, ltb, leb}
 use lib.ListN.{length, getD, set}
 use Rattle.answers.specs.declared.Answer.{Answer}
 use Rattle.answers.specs.declared.Answer.the-variants.{Accepted, MapOutOfRange, VarClass, ConstMismatch, NodeMismatch, ChainMismatch, CallMismatch}
-use Rattle.answers.specs.Answer.{isAccepted}
 use Rattle.lists.specs.First.{first}
 use Rattle.lists.specs.Tests.{all, agree}
 use Rattle.lists.specs.Trace.{trace}

@@ -52,7 +52,7 @@ fit-map look f (a ∷ l) (Prim.Native.Nat.suc j) = fit-map look f l j
 
 module _ (bits side : List ℕ) (width : ℕ → ℕ) (look : ℕ → Val) (i : ℕ) (agree : (a : ℕ) → a < i → wid (look a) ≡ width a) where
   -- the operator's width is the row's
-  core-width : (node : Node) → TagGood node → tagOf node < 37 → (tagOf node ≡ tVar → ⊥) → RowFormed (length bits) side width i node
+  pub core-width : (node : Node) → TagGood node → tagOf node < 37 → (tagOf node ≡ tVar → ⊥) → RowFormed (length bits) side width i node
       → wid (coreValue bits look node) ≡ width i
   unfolding operate
   core-width (Var w) g c v r = absurd (v refl)
