@@ -21,7 +21,7 @@ use Rattle.lowering.specs.Images.{mapNode, rowOf, rowIs, tagAt, fieldAt,
 use Rattle.lowering.specs.Matching.{isEq, isLevel}
 
 -- one of two, where the test of either passes
-one-of : (P : ℕ → Type 0) (t a b : ℕ) → P a → P b → cond (eqb t a) true (eqb t b) ≡ true → P t
+pub one-of : (P : ℕ → Type 0) (t a b : ℕ) → P a → P b → cond (eqb t a) true (eqb t b) ≡ true → P t
 one-of P t a b x y e = go (eqb t a) refl e
   where
     go : (c : Bool) → eqb t a ≡ c → cond c true (eqb t b) ≡ true → P t
@@ -45,7 +45,17 @@ of-words (Var w) g = refl
 of-words (Const s w) g = refl
 of-words (Un t a) g = un-tags (λ t. nodeFrom t a 0 0 0 ≡ Un t a) t refl refl refl g
 of-words (Bin t a b) g =
-    rw (g .no-var, g .no-const, g .no-extract, g .no-extend, g .no-ite, g .no-un, ne-eqb t tSelect (λ z. omega (arith, g .core)), ne-eqb t tCall (λ z. omega (arith, g .core)), lt-ltb t tSelect (g .core))
+    rw (
+      g .no-var,
+      g .no-const,
+      g .no-extract,
+      g .no-extend,
+      g .no-ite,
+      g .no-un,
+      ne-eqb t tSelect (λ z. omega (arith, g .core)),
+      ne-eqb t tCall (λ z. omega (arith, g .core)),
+      lt-ltb t tSelect (g .core),
+    )
 of-words (Extract h l a) g = refl
 of-words (Extend t a n) g = extend-tags (λ t. nodeFrom t a n 0 0 ≡ Extend t a n) t refl refl g
 of-words (Ite c t e) g = refl
@@ -60,7 +70,13 @@ same-words r s e =
     let (b, g) = both _ _ f in
     let (c, h) = both _ _ g in
     let (d, k) = both _ _ h in
-    rw (eqb-true (getD r 0 0) (getD s 0 0) a, eqb-true (getD r 1 0) (getD s 1 0) b, eqb-true (getD r 2 0) (getD s 2 0) c, eqb-true (getD r 3 0) (getD s 3 0) d, eqb-true (getD r 4 0) (getD s 4 0) k)
+    rw (
+      eqb-true (getD r 0 0) (getD s 0 0) a,
+      eqb-true (getD r 1 0) (getD s 1 0) b,
+      eqb-true (getD r 2 0) (getD s 2 0) c,
+      eqb-true (getD r 3 0) (getD s 3 0) d,
+      eqb-true (getD r 4 0) (getD s 4 0) k,
+    )
 
 -- a row that is a node
 pub row-is : (r : List ℕ) (node : Node) → TagGood node → rowIs r node ≡ true → nodeOf r ≡ node

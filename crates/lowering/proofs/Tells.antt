@@ -139,12 +139,17 @@ module _ (L : Lowering) (F : Formed L) (A : ℕ → ℕ) (assigns : Assigns A (L
       let z : nat (tv n) ≡ bvnot 1 (nat (tv a)) = ap nat (row-value n (Un tNot a) k q) ∙ rw (row-width a (omega (arith, g .earlier .0)), g .follows .1 refl) in
       ap nat (row-value r (Bin tBoolOr n b) h e) ∙ rw (row-width n k, f .follows .bits refl .0, z)
 
+  -- the rows under an Eq have one width
+  eq-width : (a b r : ℕ) → isEq (L .target) a b r ≡ true → wid (tv a) ≡ wid (tv b)
+  eq-width a b r t =
+      let (h, e) = eq-row (L .target) a b r t in
+      let f = row-formed r (Bin tEq a b) h e in
+      row-width a (omega (arith, f .earlier .0)) ∙ f .follows .even (λ z. omega arith) ∙ sym (row-width b (omega (arith, f .earlier .1 .0)))
+
   eq-tells : (a b r : ℕ) → isEq (L .target) a b r ≡ true → Tells (nat (tv r)) (tv a ≡ tv b)
   eq-tells a b r t =
       let (h, e) = eq-row (L .target) a b r t in
-      let f = row-formed r (Bin tEq a b) h e in
-      let w : wid (tv a) ≡ wid (tv b) = row-width a (omega (arith, f .earlier .0)) ∙ f .follows .even (λ z. omega arith) ∙ sym (row-width b (omega (arith, f .earlier .1 .0))) in
-      tells-at (eq-number r a b h e) (λ q. val-ext _ _ w q) (λ q. ap nat q) (tells-eqb _ _)
+      tells-at (eq-number r a b h e) (λ q. val-ext _ _ (eq-width a b r t) q) (λ q. ap nat q) (tells-eqb _ _)
 
   -- xs and ys agree at 0, .., n
   abbrev pub Same : (ℕ → ℕ) → (ℕ → ℕ) → ℕ → Type 0
@@ -175,3 +180,7 @@ module _ (L : Lowering) (F : Formed L) (A : ℕ → ℕ) (assigns : Assigns A (L
       (λ f x. f (λ l b. x l (omega arith)))
       (λ f x. f (λ l b. x l (omega arith)))
       (tells-if (equal-tells xs ys (k - 1) (fieldAt (L .target) n 1) a) (eq-tells u v (fieldAt (L .target) r 2) q))
+
+  pub cong-width : (xs ys : ℕ → ℕ) (k u v r : ℕ) → congruent (L .target) xs ys k u v r ≡ true → wid (tv u) ≡ wid (tv v)
+  unfolding congruent
+  cong-width xs ys k u v r t = let (_, (_, (_, (q, _)))) = all-true _ t in eq-width u v (fieldAt (L .target) r 2) q

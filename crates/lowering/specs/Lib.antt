@@ -3,3 +3,4 @@ pub mod Tables
 pub mod Matching
 pub mod Roots
 pub mod Check
+pub mod Transfer

@@ -1,0 +1,77 @@
+-- An accepted Check has passed each of its tests. Assumes nothing.
+use Prim.Native.Nat.{ℕ, zero, suc, _<_}
+use mathlib.Core.Path.{_≡_, refl, sym, _∙_}
+use mathlib.Core.Bool.{Bool, true, false, cond, not}
+use mathlib.Core.List.{List, [], _∷_, _++_}
+use native.Mathlib.Omega.{arith}
+use borrow.Author.Tests.{eqb-true, ltb-true, ltb-false, not-true, not-false}
+use lib.Dec.{ltb}
+use lib.ListN.{length, getD}
+use Rattle.answers.specs.declared.Answer.{Answer}
+use Rattle.answers.specs.declared.Answer.the-variants.{Accepted}
+use Rattle.answers.specs.Answer.{isAccepted}
+use Rattle.lists.specs.First.{first}
+use Rattle.lists.proofs.Choice.{no-way}
+use Rattle.lists.proofs.First.{first-hit, first-before}
+use Rattle.lowering.specs.Check.{Lowering, sourceRows, answerOf, refuse, firstRefusal, shapeAnswers, matchAnswers, Accepts}
+use Rattle.lowering.proofs.Passed.{Passed}
+
+-- where the first refusal is none, each answer accepts
+each-accepted : (l : List Answer) → isAccepted (firstRefusal l) ≡ true → (k : ℕ) → isAccepted (getD l k Accepted) ≡ true
+unfolding firstRefusal
+each-accepted [] e k = refl
+each-accepted (a ∷ more) e k = go _ refl e (each-accepted more) k
+  where
+    go : (b : Bool) → isAccepted a ≡ b → isAccepted (cond b (firstRefusal more) a) ≡ true
+        → (isAccepted (firstRefusal more) ≡ true → (j : ℕ) → isAccepted (getD more j Accepted) ≡ true)
+        → (j : ℕ) → isAccepted (getD (a ∷ more) j Accepted) ≡ true
+    go true q f r zero = q
+    go true q f r (suc j) = r f j
+    go false q f r j = no-way (sym f ∙ q)
+
+-- a test with a refusal failed
+not-refused : (b : Bool) (a : Answer) → isAccepted a ≡ false → isAccepted (refuse b a) ≡ true → b ≡ false
+not-refused true a n e = no-way (sym e ∙ n)
+not-refused false a n e = refl
+
+-- a search that found nothing: all fail; a search for what fails: all pass
+all-fail : (p : ℕ → Bool) (n : ℕ) → ltb (first p n) n ≡ false → (k : ℕ) → k < n → p k ≡ false
+all-fail p n e k h = let l = ltb-false (first p n) n e in first-before p n k (omega arith)
+
+all-pass : (p : ℕ → Bool) (n : ℕ) → ltb (first (λ k. not (p k)) n) n ≡ false → (k : ℕ) → k < n → p k ≡ true
+all-pass p n e k h = not-false (p k) (all-fail (λ j. not (p j)) n e k h)
+
+-- the first answer that is no acceptance is a refusal
+first-refused : (f : ℕ → Answer) (n : ℕ) (b : Bool) → ltb (first (λ k. not (isAccepted (f k))) n) n ≡ b
+    → isAccepted (refuse b (f (first (λ k. not (isAccepted (f k))) n))) ≡ true → b ≡ false
+first-refused f n true e a =
+    not-refused true (f (first (λ k. not (isAccepted (f k))) n)) (not-true _ (first-hit (λ k. not (isAccepted (f k))) n (ltb-true _ _ e))) a
+first-refused f n false e a = refl
+
+module _ (L : Lowering) (ws0 ws1 cls ent : List ℕ) (accepts : Accepts L ws0 ws1 cls ent) where
+  -- the answers in their order; answer k, counted from 0, accepts
+  abbrev answers : List Answer
+  answers = shapeAnswers L (length ws0) (length ws1) (length cls) (length ent) ++ matchAnswers L
+
+  answer : (k : ℕ) → isAccepted (getD answers k Accepted) ≡ true
+  answer k = each-accepted _ accepts k
+
+  pub passed : Passed L
+  passed =
+      record {
+        source-rows = ltb-false _ _ (not-refused _ _ refl (answer 6));
+        target-rows = ltb-false _ _ (not-refused _ _ refl (answer 7));
+        source-bits = ltb-false _ _ (not-refused _ _ refl (answer 8));
+        target-bits = ltb-false _ _ (not-refused _ _ refl (answer 9));
+        source-formed = ltb-false _ _ (not-refused _ _ refl (answer 10));
+        target-formed = ltb-false _ _ (not-refused _ _ refl (answer 11));
+        map-length = eqb-true _ _ (not-false _ (not-refused _ _ refl (answer 12)));
+        reads = all-pass _ _ (not-refused _ _ refl (answer 13));
+        calls = all-pass _ _ (not-refused _ _ refl (answer 14));
+        rows = all-pass _ _ (first-refused (answerOf L) (sourceRows L) _ refl (answer 15));
+        live = all-fail _ _ (not-refused _ _ refl (answer 16));
+        leading = all-pass _ _ (not-refused _ _ refl (answer 17));
+        read-roots = all-pass _ _ (not-refused _ _ refl (answer 18));
+        call-roots = all-pass _ _ (not-refused _ _ refl (answer 19));
+        roots-end = eqb-true _ _ (not-false _ (not-refused _ _ refl (answer 20)));
+      }
