@@ -16,3 +16,5 @@ pub mod Values
 pub mod Tells
 pub mod Agree
 pub mod Forward
+pub mod Backward
+pub mod Theorem

@@ -4,3 +4,4 @@ pub mod Matching
 pub mod Roots
 pub mod Check
 pub mod Transfer
+pub mod Sound
