@@ -82,22 +82,23 @@ unfolding firstRefusal build first all agree trace rowIs bothConst sameConst une
 cases-12 = refl
 
 -- 8. "Source Var(32) twice, Select(7,0,0,0), Select(7,1,0,0), no roots; target Var(32) twice, Var(8) twice, Eq(0,1), Not(4), Eq(2,3), BoolOr(5,6);
--- map [0,1,2,3]; reads [2,7,0,3,7,1]. Target roots [7]: accepted; []: 13 at 0"; the two index rows and their bits are given
-abbrev two-reads : (List ℕ → List ℕ) → List ℕ → (List ℕ → List ℕ) → List ℕ → List ℕ → Lowering
-two-reads srows ebits trows tbits troots =
-    lowering (srows (s5 37 7 0 0 0 (s5 37 7 1 0 0 []))) ebits [] [] (0 ∷ 1 ∷ 2 ∷ 3 ∷ []) (2 ∷ 7 ∷ 0 ∷ 3 ∷ 7 ∷ 1 ∷ []) [] []
+-- map [0,1,2,3]; reads [2,7,0,3,7,1]. Target roots [7]: accepted; []: 13 at 0"; the source roots, the two index rows and their bits are given.
+-- After a leading root the place is counted in the target's list
+abbrev two-reads : List ℕ → (List ℕ → List ℕ) → List ℕ → (List ℕ → List ℕ) → List ℕ → List ℕ → Lowering
+two-reads eroots srows ebits trows tbits troots =
+    lowering (srows (s5 37 7 0 0 0 (s5 37 7 1 0 0 []))) ebits [] eroots (0 ∷ 1 ∷ 2 ∷ 3 ∷ []) (2 ∷ 7 ∷ 0 ∷ 3 ∷ 7 ∷ 1 ∷ []) [] []
     (trows (t4 0 8 0 0 (t4 0 8 0 0 (t4 19 0 1 0 (t4 29 4 0 0 (t4 19 2 3 0 (t4 31 5 6 0 []))))))) tbits troots
 
-abbrev with-variables : List ℕ → Lowering
-with-variables troots = two-reads (λ m. s5 0 32 0 0 0 (s5 0 32 0 0 0 m)) [] (λ m. t4 0 32 0 0 (t4 0 32 0 0 m)) [] troots
+abbrev with-variables : List ℕ → List ℕ → Lowering
+with-variables eroots troots = two-reads eroots (λ m. s5 0 32 0 0 0 (s5 0 32 0 0 0 m)) [] (λ m. t4 0 32 0 0 (t4 0 32 0 0 m)) [] troots
 
-cases-8 : answer (with-variables (7 ∷ [])) ∷ answer (with-variables []) ∷ [] ≡ accepted ∷ words 13 0 0 ∷ []
+cases-8 : answer (with-variables [] (7 ∷ [])) ∷ answer (with-variables [] []) ∷ answer (with-variables (2 ∷ []) (2 ∷ 3 ∷ [])) ∷ [] ≡ accepted ∷ words 13 0 0 ∷ words 13 1 0 ∷ []
 unfolding firstRefusal build first all agree trace rowIs bothConst sameConst unequalConst sameRead sameFunction sameCall readGood callGood isEq isLevel walk endGood callMatches varMatches nodeMatches rowAnswer rowClasses leads pairsWith pairs readsNeed allEqual congruent rootAt
 cases-8 = refl
 
 -- 9. "Case 8 with unequal constant indices on both sides: [] accepted, [7] gives 12. Equal constants: [] gives 13 at 0"
 abbrev with-constants : List ℕ → List ℕ → Lowering
-with-constants bits troots = two-reads (λ m. s5 1 0 32 0 0 (s5 1 32 32 0 0 m)) bits (λ m. t4 1 0 32 0 (t4 1 32 32 0 m)) bits troots
+with-constants bits troots = two-reads [] (λ m. s5 1 0 32 0 0 (s5 1 32 32 0 0 m)) bits (λ m. t4 1 0 32 0 (t4 1 32 32 0 m)) bits troots
 
 abbrev zeros31 : List ℕ → List ℕ
 zeros31 l =
