@@ -128,6 +128,21 @@ case-11 : answer (lowering (s5 38 3 8 0 0 (s5 38 3 8 0 0 [])) [] [] [] (0 ∷ 0 
 unfolding firstRefusal build first all agree trace rowIs bothConst sameConst unequalConst sameRead sameFunction sameCall readGood callGood isEq isLevel walk endGood callMatches varMatches nodeMatches rowAnswer rowClasses leads pairsWith pairs readsNeed allEqual congruent rootAt
 case-11 = refl
 
+-- why a dead entry is refused (docs/PROOF.md): source Var(32) twice, Select(7,0), Select(7,1), Ne(2,3), root 4, is satisfiable. The target has a third entry,
+-- variable 5, whose index Ite(Eq(5,2),1,0) mentions its own variable and which no Select reaches; with the roots that its pairs need it is not satisfiable
+abbrev dead-entry : Lowering
+dead-entry =
+    lowering (s5 0 32 0 0 0 (s5 0 32 0 0 0 (s5 37 7 0 0 0 (s5 37 7 1 0 0 (s5 20 2 3 0 0 []))))) [] [] (4 ∷ []) (0 ∷ 1 ∷ 2 ∷ 3 ∷ 4 ∷ [])
+    (2 ∷ 7 ∷ 0 ∷ 3 ∷ 7 ∷ 1 ∷ 5 ∷ 7 ∷ 7 ∷ []) [] []
+    (t4 0 32 0 0 (t4 0 32 0 0 (t4 0 8 0 0 (t4 0 8 0 0 (t4 20 2 3 0 (t4 0 8 0 0 (t4 19 5 2 0 (t4 18 6 1 0
+    (t4 19 0 1 0 (t4 29 8 0 0 (t4 19 2 3 0 (t4 31 9 10 0
+    (t4 19 0 7 0 (t4 29 12 0 0 (t4 19 2 5 0 (t4 31 13 14 0
+    (t4 19 1 7 0 (t4 29 16 0 0 (t4 19 3 5 0 (t4 31 17 18 0 [])))))))))))))))))))) [] (4 ∷ 11 ∷ 15 ∷ 19 ∷ [])
+
+case-dead : answer dead-entry ≡ words 14 5 0
+unfolding firstRefusal build first all agree trace rowIs bothConst sameConst unequalConst sameRead sameFunction sameCall readGood callGood isEq isLevel walk endGood callMatches varMatches nodeMatches rowAnswer rowClasses leads pairsWith pairs readsNeed allEqual congruent rootAt
+case-dead = refl
+
 -- 12. "Width 8: Sdiv(128,255)=128, Sdiv(200,0)=1, Sdiv(5,0)=255, Srem(249,2)=255, Rotr(1,9)=128"
 case-12 : bvsdiv 8 128 255 ∷ bvsdiv 8 200 0 ∷ bvsdiv 8 5 0 ∷ bvsrem 8 249 2 ∷ bvrotr 8 1 9 ∷ [] ≡ 128 ∷ 1 ∷ 255 ∷ 255 ∷ 128 ∷ []
 unfolding rotate-right ofBits
