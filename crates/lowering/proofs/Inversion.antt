@@ -13,7 +13,7 @@ use Rattle.answers.specs.Answer.{isAccepted}
 use Rattle.lists.specs.First.{first}
 use Rattle.lists.proofs.Choice.{no-way}
 use Rattle.lists.proofs.First.{first-hit, first-before}
-use Rattle.lowering.specs.Check.{Lowering, sourceRows, answerOf, refuse, firstRefusal, shapeAnswers, matchAnswers, Accepts}
+use Rattle.lowering.specs.Check.{Lowering, sourceRows, sourceIll, targetIll, answerOf, refuse, firstRefusal, countAnswers, graphAnswers, matchAnswers, Accepts}
 use Rattle.lowering.proofs.Passed.{Passed}
 
 -- where the first refusal is none, each answer accepts
@@ -51,7 +51,9 @@ first-refused f n false e a = refl
 module _ (L : Lowering) (ws0 ws1 cls ent : List ℕ) (accepts : Accepts L ws0 ws1 cls ent) where
   -- the answers in their order; answer k, counted from 0, accepts
   abbrev answers : List Answer
-  answers = shapeAnswers L (length ws0) (length ws1) (length cls) (length ent) ++ matchAnswers L
+  answers =
+      countAnswers (L .source) (L .target) (length ws0) (length ws1) (length cls) (length ent)
+      ++ (graphAnswers (L .source) (L .ebits) (L .target) (L .tbits) (sourceIll L) (targetIll L) ++ matchAnswers L)
 
   answer : (k : ℕ) → isAccepted (getD answers k Accepted) ≡ true
   answer k = each-accepted _ accepts k

@@ -115,42 +115,55 @@ firstRefusal [] = Accepted
 firstRefusal (a ∷ more) = cond (isAccepted a) (firstRefusal more) a
 
 -- "15 RowCount: a graph's word count is no multiple of its row (place 1 source, 2 target). 18 WorkShort: a work list is shorter than its graph
--- (1 source widths, 2 target widths, 3 classes, 4 entries). 16 BadRow .. 17 BadBit .. where one has two causes, the source or lower list goes first"
-abbrev pub shapeAnswers : Lowering → ℕ → ℕ → ℕ → ℕ → List Answer
-shapeAnswers L w0 w1 c e =
-    refuse (ragged Source (L .source)) (RowCount 1)
-    ∷ refuse (ragged Target (L .target)) (RowCount 2)
-    ∷ refuse (ltb w0 (sourceRows L)) (WorkShort 1)
-    ∷ refuse (ltb w1 (targetRows L)) (WorkShort 2)
-    ∷ refuse (ltb c (targetRows L)) (WorkShort 3)
-    ∷ refuse (ltb e (targetRows L)) (WorkShort 4)
-    ∷ refuse (ltb (badRow Source (L .source)) (sourceRows L)) (BadRow (badRow Source (L .source)) 1)
-    ∷ refuse (ltb (badRow Target (L .target)) (targetRows L)) (BadRow (badRow Target (L .target)) 2)
-    ∷ refuse (ltb (badBit (L .ebits)) (length (L .ebits))) (BadBit (badBit (L .ebits)) 1)
-    ∷ refuse (ltb (badBit (L .tbits)) (length (L .tbits))) (BadBit (badBit (L .tbits)) 2)
+-- (1 source widths, 2 target widths, 3 classes, 4 entries)"
+abbrev pub countAnswers : List ℕ → List ℕ → ℕ → ℕ → ℕ → ℕ → List Answer
+countAnswers source target w0 w1 c e =
+    refuse (ragged Source source) (RowCount 1)
+    ∷ refuse (ragged Target target) (RowCount 2)
+    ∷ refuse (ltb w0 (rowCount Source source)) (WorkShort 1)
+    ∷ refuse (ltb w1 (rowCount Target target)) (WorkShort 2)
+    ∷ refuse (ltb c (rowCount Target target)) (WorkShort 3)
+    ∷ refuse (ltb e (rowCount Target target)) (WorkShort 4)
     ∷ []
 
--- "Then 1 Ext (row); 2 Core (row); 3 MapLength (expected, found); 5 ReadTable (entry); 6 CallTable (entry) .. Then by row 4 .. 11. Then 14 DeadEntry
--- (first variable); 12 RootMismatch; 13 CongruenceMismatch (position in the target root list, possibly its length); 12 for surplus roots."
+-- "16 BadRow: .. (row; detail 1 or 2 for the graph). 17 BadBit: .. (position; 1 or 2) .. where one has two causes, the source or lower list goes
+-- first"; "Then 1 Ext (row); 2 Core (row)", of the rows named as ill-formed, if they are rows
+abbrev pub graphAnswers : List ℕ → List ℕ → List ℕ → List ℕ → ℕ → ℕ → List Answer
+graphAnswers source ebits target tbits ill0 ill1 =
+    refuse (ltb (badRow Source source) (rowCount Source source)) (BadRow (badRow Source source) 1)
+    ∷ refuse (ltb (badRow Target target) (rowCount Target target)) (BadRow (badRow Target target) 2)
+    ∷ refuse (ltb (badBit ebits) (length ebits)) (BadBit (badBit ebits) 1)
+    ∷ refuse (ltb (badBit tbits) (length tbits)) (BadBit (badBit tbits) 2)
+    ∷ refuse (ltb ill0 (rowCount Source source)) (Ext ill0)
+    ∷ refuse (ltb ill1 (rowCount Target target)) (Core ill1)
+    ∷ []
+
+-- "12 RootMismatch; 13 CongruenceMismatch (position in the target root list, possibly its length); 12 for surplus roots."
 -- The place of 12 is the position of the first source root that has no image, differs or finds the list ended; roots left over have none
-abbrev pub matchAnswers : Lowering → List Answer
-matchAnswers L =
-    refuse (ltb (sourceIll L) (sourceRows L)) (Ext (sourceIll L))
-    ∷ refuse (ltb (targetIll L) (targetRows L)) (Core (targetIll L))
-    ∷ refuse (not (eqb (length (L .map)) (sourceRows L))) (MapLength (sourceRows L) (length (L .map)))
-    ∷ refuse (ltb (badReadEntry L) (readCount (L .reads))) (ReadTable (badReadEntry L))
-    ∷ refuse (ltb (badCallEntry L) (callCount (L .calls))) (CallTable (badCallEntry L))
-    ∷ refuse (ltb (mismatch L) (sourceRows L)) (answerOf L (mismatch L))
-    ∷ refuse (ltb (deadVariable L) (targetRows L)) (DeadEntry (deadVariable L))
-    ∷ refuse (ltb (badLeadRoot L) (length (L .eroots))) (RootMismatch (badLeadRoot L))
+abbrev pub rootAnswers : Lowering → List Answer
+rootAnswers L =
+    refuse (ltb (badLeadRoot L) (length (L .eroots))) (RootMismatch (badLeadRoot L))
     ∷ refuse (ltb (badReadRoot L) (length (pairsOfReads L))) (CongruenceMismatch (length (L .eroots) + badReadRoot L))
     ∷ refuse (ltb (badCallRoot L) (length (pairsOfCalls L))) (CongruenceMismatch (callRoots L + badCallRoot L))
     ∷ refuse (not (eqb (length (L .troots)) (rootsEnd L))) (RootMismatch 0)
     ∷ []
 
+-- "3 MapLength (expected, found); 5 ReadTable (entry); 6 CallTable (entry) .. Then by row 4 .. 11. Then 14 DeadEntry (first variable)", then the roots
+abbrev pub matchAnswers : Lowering → List Answer
+matchAnswers L =
+    refuse (not (eqb (length (L .map)) (sourceRows L))) (MapLength (sourceRows L) (length (L .map)))
+    ∷ refuse (ltb (badReadEntry L) (readCount (L .reads))) (ReadTable (badReadEntry L))
+    ∷ refuse (ltb (badCallEntry L) (callCount (L .calls))) (CallTable (badCallEntry L))
+    ∷ refuse (ltb (mismatch L) (sourceRows L)) (answerOf L (mismatch L))
+    ∷ refuse (ltb (deadVariable L) (targetRows L)) (DeadEntry (deadVariable L))
+    ∷ rootAnswers L
+
 -- the answer, with room for some words in each of the four lists
 abbrev pub checkAnswer : Lowering → ℕ → ℕ → ℕ → ℕ → Answer
-checkAnswer L w0 w1 c e = firstRefusal (shapeAnswers L w0 w1 c e ++ matchAnswers L)
+checkAnswer L w0 w1 c e =
+    firstRefusal
+    (countAnswers (L .source) (L .target) w0 w1 c e
+    ++ (graphAnswers (L .source) (L .ebits) (L .target) (L .tbits) (sourceIll L) (targetIll L) ++ matchAnswers L))
 
 -- an answer and what stands in the four lent lists afterwards
 pub record Outcome : Type 0 where
