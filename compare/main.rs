@@ -2,36 +2,48 @@
 //!
 //! `compare` runs many cases through both, `list` writes a fixed list of cases
 //! with the expected outcomes, `bench` takes times, `smt` writes the library's
-//! values as a script for a solver. docs/COMPARISON.md tells more;
-//! `compare/run` builds and starts this program.
+//! values as a script for a solver, `check-self` holds two statements of Check
+//! against each other. docs/COMPARISON.md tells more; `compare/run` builds and
+//! starts this program.
 
 mod bench;
 mod chains;
+mod changes;
+mod check;
 mod compare;
+mod congruence;
 mod damage;
+mod finish;
 mod graphs;
 mod grid;
 mod list;
 mod listed;
+mod lowering;
+mod marked;
 mod operands;
 mod operation;
 mod ours;
 mod plain;
 mod random;
 mod reference;
+mod restated;
 mod roots;
 mod rules;
+mod selftest;
 mod show;
 mod shrink;
 mod smt;
+mod sources;
+mod spoil;
 mod tags;
 mod tiny;
 mod values;
+mod wellformed;
 mod widths;
 
 use std::process::ExitCode;
 
-const USAGE: &str = "usage: [compare|bench|list|smt] [--seed N] [--cases N] [--rows N]";
+const USAGE: &str = "usage: [compare|bench|list|smt|check-self] [--seed N] [--cases N] [--rows N]";
 
 /// The words of the command line.
 struct Command {
@@ -53,7 +65,7 @@ fn command(mut words: impl Iterator<Item = String>) -> Option<Command> {
             "--seed" => command.seed = words.next()?.parse().ok()?,
             "--cases" => command.cases = words.next()?.parse().ok()?,
             "--rows" => command.rows = words.next()?.parse().ok()?,
-            "compare" | "bench" | "list" | "smt" => command.what = word,
+            "compare" | "bench" | "list" | "smt" | "check-self" => command.what = word,
             _ => return None,
         }
     }
@@ -69,6 +81,7 @@ fn main() -> ExitCode {
         "bench" => bench::bench(command.seed),
         "list" => list::list(command.seed),
         "smt" => smt::smt(command.seed, command.rows),
+        "check-self" => selftest::selftest(command.seed, command.cases),
         _ => compare::compare(command.seed, command.cases),
     };
     ExitCode::from(if good { 0 } else { 1 })

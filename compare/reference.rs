@@ -4,10 +4,14 @@
 //! the rules 15 to 18 found nothing, so each tag is known.
 
 use kernel::blast_kernel::{aig_new, encode, eval_lit, simulate, DagNode, Lit};
-use kernel::sliver_kernel::{ext_wf, ExtNode, SliverCheckError};
+use kernel::sliver_kernel::{check_sliver_lowering, ext_wf, ExtNode, SliverCheckError};
 use kernel::{dag_wf, roots_wf, QueryError};
 
+use crate::check::at;
+use crate::operation::Lists;
+use crate::ours::Answer;
 use crate::plain;
+use crate::rules::{answer, ACCEPTED};
 use crate::tags::{CALL, SELECT};
 
 /// The core node of a row: its tag and its first three fields.
@@ -137,4 +141,63 @@ pub fn roots(widths: &[u64], roots: &[u64]) -> Result<(), u64> {
         Err(QueryError::BadRoot { root }) => Err(root as u64),
         Err(other) => panic!("roots_wf refused with {other:?}"),
     }
+}
+
+/// What `check_sliver_lowering` answers, as the scope's number, place and
+/// detail.
+pub fn check(lists: &Lists) -> Answer {
+    let list = |place: usize| sizes(&lists[place]);
+    let verdict = check_sliver_lowering(
+        &ext_nodes(&lists[at::SOURCE]),
+        &flags(&lists[at::SOURCE_BITS]),
+        &list(at::SIDE),
+        &list(at::SOURCE_ROOTS),
+        &list(at::MAP),
+        &list(at::READS),
+        &list(at::CALLS),
+        &list(at::ARGUMENTS),
+        &dag_nodes(&lists[at::TARGET]),
+        &flags(&lists[at::TARGET_BITS]),
+        &list(at::TARGET_ROOTS),
+    );
+    let Err(error) = verdict else {
+        return ACCEPTED;
+    };
+    let at = |number: u64, place: usize| answer(number, place as u64, 0);
+    match error {
+        SliverCheckError::Ext { node } => at(1, node),
+        SliverCheckError::Core(QueryError::NodeNotWellFormed { node }) => at(2, node),
+        SliverCheckError::Core(other) => panic!("dag_wf refused with {other:?}"),
+        SliverCheckError::MapLength { expected, found } => answer(3, expected as u64, found as u64),
+        SliverCheckError::MapOutOfRange { node } => at(4, node),
+        SliverCheckError::ReadTable { entry } => at(5, entry),
+        SliverCheckError::CallTable { entry } => at(6, entry),
+        SliverCheckError::VarClass { node } => at(7, node),
+        SliverCheckError::ConstMismatch { node } => at(8, node),
+        SliverCheckError::NodeMismatch { node } => at(9, node),
+        SliverCheckError::ChainMismatch { node } => at(10, node),
+        SliverCheckError::CallMismatch { node } => at(11, node),
+        SliverCheckError::RootMismatch => answer(12, root_place(lists), 0),
+        SliverCheckError::CongruenceMismatch { root } => at(13, root),
+        SliverCheckError::DeadEntry { var } => at(14, var),
+    }
+}
+
+/// The place of 12, which the Rust does not name: the first source root that
+/// has no image, or another root or none in its place; 0 for roots left over.
+fn root_place(lists: &Lists) -> u64 {
+    let image = |root: u64| *lists[at::MAP].get(root as usize).unwrap_or(&u64::MAX);
+    let images = lists[at::SOURCE_ROOTS].iter().map(|&root| image(root));
+    let bad = |(place, image): (usize, u64)| {
+        image == u64::MAX || lists[at::TARGET_ROOTS].get(place) != Some(&image)
+    };
+    images.enumerate().position(bad).unwrap_or(0) as u64
+}
+
+/// The widths of both graphs of an accepted lowering.
+pub fn check_widths(lists: &Lists) -> [Vec<u64>; 2] {
+    let bits = |place: usize| lists[place].len();
+    let source = source_widths(&lists[at::SOURCE], bits(at::SOURCE_BITS), &lists[at::SIDE]);
+    let target = target_widths(&lists[at::TARGET], bits(at::TARGET_BITS));
+    [source, target].map(|widths| widths.expect("an accepted graph is well formed"))
 }

@@ -1,6 +1,7 @@
 //! What the scope adds to the published Rust: the refusals 15 to 18 and 21 to
 //! 23, their order, and what a lent list holds after each answer.
 
+use crate::check::at;
 use crate::operation::Lists;
 use crate::ours::Answer;
 use crate::tags::{TAGS, VAR};
@@ -99,6 +100,29 @@ fn judged(
             Err(row) => (answer(graph.number, row, 0), Vec::new()),
         },
     }
+}
+
+/// The first of the four rules above that applies to Check. Each is looked for
+/// in both graphs before the next.
+pub fn check(lists: &Lists) -> Option<Answer> {
+    let graphs = [
+        (SOURCE, &lists[at::SOURCE], &lists[at::SOURCE_BITS]),
+        (TARGET, &lists[at::TARGET], &lists[at::TARGET_BITS]),
+    ];
+    // The first lent list serves the source, the other three the target.
+    let short = |place: usize| {
+        let (graph, rows, _) = graphs[place.min(1)];
+        work_short(place as u64 + 1, graph, rows, &lists[at::LENT + place])
+    };
+    let mut counts = graphs
+        .iter()
+        .map(|&(graph, rows, _)| row_count(graph, rows));
+    let mut rows = graphs.iter().map(|&(graph, rows, _)| bad_row(graph, rows));
+    let mut bits = graphs.iter().map(|&(graph, _, bits)| bad_bit(graph, bits));
+    (counts.find_map(|refusal| refusal))
+        .or_else(|| (0..4).find_map(short))
+        .or_else(|| rows.find_map(|refusal| refusal))
+        .or_else(|| bits.find_map(|refusal| refusal))
 }
 
 /// 21: the first row above 64 bits.

@@ -2,7 +2,7 @@
 use Prim.Native.Nat.{ℕ, zero, suc, _+_, _<_, _≤_}
 use mathlib.Core.Path.{_≡_, refl, sym, ap, _∙_, subst}
 use mathlib.Core.Bool.{Bool, true, false, cond}
-use mathlib.Core.Logic.{_⊎_, inl, inr, ⊎-elim}
+use mathlib.Core.Logic.{⊎-elim}
 use mathlib.Core.List.{List}
 use native.Mathlib.Nat.{eq-or-lt-of-le}
 use native.Mathlib.Omega.{arith}
@@ -20,12 +20,11 @@ use Rattle.rows.specs.declared.Node.{Node}
 use Rattle.rows.specs.declared.Node.the-variants.{Var, Const, Un, Bin, Extract, Extend, Ite, Select, Call, Unknown}
 use Rattle.rows.specs.Row.{rowAt}
 use Rattle.rows.specs.Tags.{either}
-use Rattle.wf.specs.Promise.{RowFormed}
 use Rattle.lowering.specs.declared.Walk.{Walk}
 use Rattle.lowering.specs.declared.Walk.the-variants.{RanOut, Met, Lost}
 use Rattle.lowering.specs.Images.{MAX}
 use Rattle.lowering.specs.Matching.{endGood, callMatches, varMatches, matched, nodeAnswer, rowAnswer, endClasses, nodeClasses, rowClasses}
-use Rattle.lowering.specs.Check.{Lowering, sourceRows, targetRows, sourceWidths, classesOfTables, classes, offsets}
+use Rattle.lowering.specs.Check.{Lowering, sourceRows, targetRows, classesOfTables, classes, offsets}
 use Rattle.lowering.proofs.Facts.{S, T, m, Mapped, Formed, walkOf}
 use Rattle.lowering.proofs.Passed.{Passed}
 use Rattle.lowering.proofs.Images.{one-of, row-is}
@@ -42,24 +41,41 @@ test-of true a n e = refl
 test-of false a n e = sym n ∙ e
 
 module _ (L : Lowering) where
-  -- a number that the map gives some source row
-  abbrev pub Sent : ℕ → Type 0
-  Sent y = (x : ℕ) × (x < sourceRows L) × (m L x ≡ y)
+  -- the target variable that a row uses: its image, for a variable and a call; where its walk ran out, for a Select. Other rows use none, which is
+  -- the number of target rows
+  abbrev pub usedEnd : Walk → ℕ
+  usedEnd (RanOut r) = r
+  usedEnd (Met r v) = targetRows L
+  usedEnd Lost = targetRows L
 
-  -- the index, and each argument, of the entry at a target row's offset
-  abbrev pub IndexSent : ℕ → Type 0
-  IndexSent r = Sent (getD (L .reads) (getD (offsets L) r 0 + 2) 0)
+  abbrev pub usedAt : ℕ → Node → ℕ
+  usedAt r (Var w) = r
+  usedAt r (Const s w) = targetRows L
+  usedAt r (Un t a) = targetRows L
+  usedAt r (Bin t a b) = targetRows L
+  usedAt r (Extract h l a) = targetRows L
+  usedAt r (Extend t a n) = targetRows L
+  usedAt r (Ite c t e) = targetRows L
+  usedAt r (Select a j s k) = usedEnd (walkOf L j k s r)
+  usedAt r (Call f w s k) = r
+  usedAt r Unknown = targetRows L
 
-  abbrev pub ArgsSent : ℕ → Type 0
-  ArgsSent r =
-      (l : ℕ) → l < getD (L .calls) (getD (offsets L) r 0 + 3) 0 → Sent (getD (L .cargs) (getD (L .calls) (getD (offsets L) r 0 + 2) 0 + l) 0)
+  abbrev pub used : ℕ → ℕ
+  used i = usedAt (m L i) (S L i)
+
+  -- mapped row i uses target row r; some row does
+  abbrev pub Uses : ℕ → ℕ → Type 0
+  Uses i r = Mapped L i × (used i ≡ r)
+
+  abbrev pub Used : ℕ → Type 0
+  Used r = (i : ℕ) × Uses i r
 
   -- the class of target row r, before and after a source row
   pub data Turns (r c d : ℕ) : Type 0 where
     stays : d ≡ c → Turns r c d
     to-var : c ≡ 0 → d ≡ 1 → Turns r c d
-    to-read : kind c ≡ 2 → d ≡ 4 → IndexSent r → Turns r c d
-    to-call : kind c ≡ 3 → d ≡ 5 → ArgsSent r → Turns r c d
+    to-read : kind c ≡ 2 → d ≡ 4 → Used r → Turns r c d
+    to-call : kind c ≡ 3 → d ≡ 5 → Used r → Turns r c d
 
   -- what a turn keeps
   pub turn-kind : (r c d : ℕ) → Turns r c d → kind d ≡ kind c
@@ -76,21 +92,12 @@ module _ (L : Lowering) where
   turn-one r c d (to-read k e x) h = let z : _≡_ {A = ℕ} 0 2 = rw h at k in absurd (omega arith)
   turn-one r c d (to-call k e x) h = let z : _≡_ {A = ℕ} 0 3 = rw h at k in absurd (omega arith)
 
-  pub turn-read : (r c d : ℕ) → Turns r c d → (c ≡ 2) ⊎ IndexSent r → (d ≡ 2) ⊎ IndexSent r
-  unfolding kind
-  turn-read r c d t (inr x) = inr x
-  turn-read r c d (stays e) (inl h) = inl (e ∙ h)
-  turn-read r c d (to-var e f) (inl h) = absurd (omega arith)
-  turn-read r c d (to-read k e x) (inl h) = inr x
-  turn-read r c d (to-call k e x) (inl h) = let z : _≡_ {A = ℕ} 2 3 = rw h at k in absurd (omega arith)
-
-  pub turn-call : (r c d : ℕ) → Turns r c d → (c ≡ 3) ⊎ ArgsSent r → (d ≡ 3) ⊎ ArgsSent r
-  unfolding kind
-  turn-call r c d t (inr x) = inr x
-  turn-call r c d (stays e) (inl h) = inl (e ∙ h)
-  turn-call r c d (to-var e f) (inl h) = absurd (omega arith)
-  turn-call r c d (to-read k e x) (inl h) = let z : _≡_ {A = ℕ} 3 2 = rw h at k in absurd (omega arith)
-  turn-call r c d (to-call k e x) (inl h) = inr x
+  -- a class that has left 2 and 3 is that of a row in use
+  pub turn-live : (r c d : ℕ) → Turns r c d → (either c 2 3 ≡ false → Used r) → either d 2 3 ≡ false → Used r
+  turn-live r c d (stays e) f h = f (rw e at h)
+  turn-live r c d (to-var e g) f h = f (rw e)
+  turn-live r c d (to-read k e x) f h = x
+  turn-live r c d (to-call k e x) f h = x
 
   -- the answer and the classes of a node at row i
   abbrev pub answerAt : ℕ → Node → Answer
@@ -168,40 +175,31 @@ module _ (L : Lowering) (P : Passed L) (F : Formed L) (small : targetRows L ≤ 
   pub classes-length : (n : ℕ) → length (classes L n) ≡ targetRows L
   classes-length n = classes-keep-length L n ∙ tables-length L P
 
-  -- a source row's node is well formed
-  row-formed : (i : ℕ) (node : Node) → i < sourceRows L → S L i ≡ node → RowFormed (length (L .ebits)) (L .eside) (λ a. getD (sourceWidths L) a 0) i node
-  row-formed i node h e = subst (λ (n : Node). RowFormed (length (L .ebits)) (L .eside) (λ a. getD (sourceWidths L) a 0) i n) e (F .source-formed i h)
-
   -- a mapped row's answer is its node's
   pub mapped-passed : (i : ℕ) → Mapped L i → isAccepted (answerAt L i (S L i)) ≡ true
   unfolding rowAnswer
   mapped-passed i (h, u) = rw (ne-eqb (m L i) MAX (λ z. omega arith), lt-ltb (m L i) (targetRows L) u) at (P .rows i h)
 
   -- how the classes change at a mapped row
-  turn-end : (i a j : ℕ) → j < sourceRows L → (o : Walk) → endOf L i a j o ≡ true → (r : ℕ) → Turns L r (getD (classes L i) r 0) (getD (endClasses (classes L i) o) r 0)
-  turn-end i a j h (RanOut p) e r =
-      let (u, c, _, y) = ran-out L i a j p e in
-      set-holds (Turns L r (getD (classes L i) r 0)) (classes L i) p 4 r (rw (classes-length i) u) (stays refl)
-      (λ q. to-read (rw q at c) refl (j, h, rw q at (sym y)))
-  turn-end i a j h (Met p v) e r = stays refl
-  turn-end i a j h Lost e r = stays refl
+  turn-end : (i a j : ℕ) → Mapped L i → (o : Walk) → used L i ≡ usedEnd L o → endOf L i a j o ≡ true → (r : ℕ)
+      → Turns L r (getD (classes L i) r 0) (getD (endClasses (classes L i) o) r 0)
+  turn-end i a j x (RanOut p) y e r =
+      let (u, c, _, _) = ran-out L i a j p e in
+      set-holds (Turns L r (getD (classes L i) r 0)) (classes L i) p 4 r (rw (classes-length i) u) (stays refl) (λ q. to-read (rw q at c) refl (i, (x, y ∙ q)))
+  turn-end i a j x (Met p v) y e r = stays refl
+  turn-end i a j x Lost y e r = stays refl
 
   turn-node : (i : ℕ) → Mapped L i → (node : Node) → S L i ≡ node → isAccepted (answerAt L i node) ≡ true → (r : ℕ)
       → Turns L r (getD (classes L i) r 0) (getD (classesAt L i node) r 0)
   turn-node i (h, u) (Var w) n e r =
       set-holds (Turns L r (getD (classes L i) r 0)) (classes L i) (m L i) 1 r (rw (classes-length i) u) (stays refl)
       (λ q. to-var (rw q at (var-passed L i w e .1)) refl)
-  turn-node i (h, u) (Select a j s k) n e r =
-      turn-end i a j (omega (arith, row-formed i (Select a j s k) h n .earlier .0)) (walkOf L j k s (m L i)) (test-of _ (ChainMismatch i) refl e) r
+  turn-node i x (Select a j s k) n e r =
+      turn-end i a j x (walkOf L j k s (m L i)) (ap (usedAt L (m L i)) n) (test-of _ (ChainMismatch i) refl e) r
   turn-node i (h, u) (Call f w s k) n e r =
-      let (_, c, here) = call-passed L i f w s k e in
+      let (_, c, _) = call-passed L i f w s k e in
       set-holds (Turns L r (getD (classes L i) r 0)) (classes L i) (m L i) 5 r (rw (classes-length i) u) (stays refl)
-      (λ q. to-call (rw q at c) refl (rw q at (args here)))
-    where
-      args : CallHere L (m L i) f k (λ l. m L (getD (L .eside) (s + l) 0)) → ArgsSent L (m L i)
-      args here l v =
-          let x : l < k = rw (here .count-here) at v in
-          (getD (L .eside) (s + l) 0, omega (arith, row-formed i (Call f w s k) h n .follows .1 l x .arg-earlier), here .args-here l x)
+      (λ q. to-call (rw q at c) refl (i, ((h, u), ap (usedAt L (m L i)) n ∙ q)))
   turn-node i x (Const s w) n e r = stays refl
   turn-node i x (Un t a) n e r = stays refl
   turn-node i x (Bin t a b) n e r = stays refl

@@ -17,7 +17,7 @@ use Rattle.lowering.specs.Check.{Lowering, sourceRows, sourceIll, target
 use Rattle.lowering.proofs.Passed.{Passed}
 
 -- where the first refusal is none, each answer accepts
-each-accepted : (l : List Answer) → isAccepted (firstRefusal l) ≡ true → (k : ℕ) → isAccepted (getD l k Accepted) ≡ true
+pub each-accepted : (l : List Answer) → isAccepted (firstRefusal l) ≡ true → (k : ℕ) → isAccepted (getD l k Accepted) ≡ true
 unfolding firstRefusal
 each-accepted [] e k = refl
 each-accepted (a ∷ more) e k = go _ refl e (each-accepted more) k
@@ -30,15 +30,15 @@ each-accepted (a ∷ more) e k = go _ refl e (each-accepted more) k
     go false q f r j = no-way (sym f ∙ q)
 
 -- a test with a refusal failed
-not-refused : (b : Bool) (a : Answer) → isAccepted a ≡ false → isAccepted (refuse b a) ≡ true → b ≡ false
+pub not-refused : (b : Bool) (a : Answer) → isAccepted a ≡ false → isAccepted (refuse b a) ≡ true → b ≡ false
 not-refused true a n e = no-way (sym e ∙ n)
 not-refused false a n e = refl
 
 -- a search that found nothing: all fail; a search for what fails: all pass
-all-fail : (p : ℕ → Bool) (n : ℕ) → ltb (first p n) n ≡ false → (k : ℕ) → k < n → p k ≡ false
+pub all-fail : (p : ℕ → Bool) (n : ℕ) → ltb (first p n) n ≡ false → (k : ℕ) → k < n → p k ≡ false
 all-fail p n e k h = let l = ltb-false (first p n) n e in first-before p n k (omega arith)
 
-all-pass : (p : ℕ → Bool) (n : ℕ) → ltb (first (λ k. not (p k)) n) n ≡ false → (k : ℕ) → k < n → p k ≡ true
+pub all-pass : (p : ℕ → Bool) (n : ℕ) → ltb (first (λ k. not (p k)) n) n ≡ false → (k : ℕ) → k < n → p k ≡ true
 all-pass p n e k h = not-false (p k) (all-fail (λ j. not (p j)) n e k h)
 
 -- the first answer that is no acceptance is a refusal

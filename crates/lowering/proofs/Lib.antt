@@ -1,5 +1,6 @@
 pub mod Cases
 pub mod Search
+pub mod Refusals
 pub mod Passed
 pub mod Inversion
 pub mod Facts
@@ -17,4 +18,5 @@ pub mod Tells
 pub mod Agree
 pub mod Forward
 pub mod Backward
+pub mod Reach
 pub mod Theorem

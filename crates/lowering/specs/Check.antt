@@ -138,6 +138,10 @@ graphAnswers source ebits target tbits ill0 ill1 =
     ∷ refuse (ltb ill1 (rowCount Target target)) (Core ill1)
     ∷ []
 
+abbrev pub graphsAnswer : List ℕ → List ℕ → List ℕ → List ℕ → List ℕ → Answer
+graphsAnswer source ebits eside target tbits =
+    firstRefusal (graphAnswers source ebits target tbits (illRow Source (length ebits) eside source) (illRow Target (length tbits) [] target))
+
 -- "12 RootMismatch; 13 CongruenceMismatch (position in the target root list, possibly its length); 12 for surplus roots."
 -- The place of 12 is the position of the first source root that has no image, differs or finds the list ended; roots left over have none
 abbrev pub rootAnswers : Lowering → List Answer

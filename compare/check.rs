@@ -1,0 +1,225 @@
+//! Check as an operation. The answer that is expected comes from the published
+//! Rust; classes and entry offsets, which the Rust keeps to itself, and the
+//! second reference come from restated.rs. The library has no Check yet, so the
+//! operation is not among `OPERATIONS`; selftest.rs runs it without the library.
+
+use crate::lowering;
+use crate::operation::{Kind, Lists, Operation, Outcome};
+use crate::ours::Answer;
+use crate::random::Random;
+use crate::reference;
+use crate::restated::{self, Written};
+use crate::rules::{self, ACCEPTED, SOURCE, TARGET};
+use crate::spoil;
+use crate::tags::{names_row, BOOL_OR};
+
+pub struct Check;
+
+pub const CHECK: Check = Check;
+
+/// The places of its lists.
+pub mod at {
+    pub const SOURCE: usize = 0;
+    pub const SOURCE_BITS: usize = 1;
+    pub const SIDE: usize = 2;
+    pub const SOURCE_ROOTS: usize = 3;
+    pub const MAP: usize = 4;
+    pub const READS: usize = 5;
+    pub const CALLS: usize = 6;
+    pub const ARGUMENTS: usize = 7;
+    pub const TARGET: usize = 8;
+    pub const TARGET_BITS: usize = 9;
+    pub const TARGET_ROOTS: usize = 10;
+    /// The first of the four lent lists.
+    pub const LENT: usize = 11;
+}
+
+impl Operation for Check {
+    fn number(&self) -> u64 {
+        5
+    }
+
+    fn name(&self) -> &'static str {
+        "check"
+    }
+
+    fn lists(&self) -> &'static [(&'static str, Kind)] {
+        &[
+            ("source", Kind::Rows(5)),
+            ("source bits", Kind::Bits),
+            ("side", Kind::Words),
+            ("source roots", Kind::Words),
+            ("map", Kind::Words),
+            ("reads", Kind::Words),
+            ("calls", Kind::Words),
+            ("arguments", Kind::Words),
+            ("target", Kind::Rows(4)),
+            ("target bits", Kind::Bits),
+            ("target roots", Kind::Words),
+            ("source widths", Kind::Lent(at::SOURCE)),
+            ("target widths", Kind::Lent(at::TARGET)),
+            ("classes", Kind::Lent(at::TARGET)),
+            ("entries", Kind::Lent(at::TARGET)),
+        ]
+    }
+
+    fn answers(&self) -> &'static [u64] {
+        &[
+            0, 1, 2, 3, 4, 5, 6, 7, 8, 9, 10, 11, 12, 13, 14, 15, 16, 17, 18,
+        ]
+    }
+
+    /// An accepted lowering, then none to three damages.
+    fn generate(&self, random: &mut Random, rows: usize) -> Lists {
+        let mut lists = undamaged(random, rows);
+        for _ in 0..random.pick(&[0, 0, 1, 1, 1, 1, 1, 1, 2, 3]) {
+            spoil::spoil(random, self.lists(), &mut lists);
+        }
+        lists
+    }
+
+    fn ours(&self, _lists: &Lists) -> Outcome {
+        panic!("the library has no Check yet")
+    }
+
+    fn expected(&self, lists: &Lists) -> Outcome {
+        let answer = rules::check(lists).unwrap_or_else(|| reference::check(lists));
+        let written = if answer == ACCEPTED {
+            let [source, target] = reference::check_widths(lists);
+            let [_, _, classes, entries] = restated::check(lists).1;
+            [source, target, classes, entries]
+        } else {
+            Written::default()
+        };
+        outcome(lists, answer, &written)
+    }
+
+    fn second(&self, lists: &Lists) -> Option<Outcome> {
+        let (answer, written) = match rules::check(lists) {
+            Some(refusal) => (refusal, Written::default()),
+            None => restated::check(lists),
+        };
+        Some(outcome(lists, answer, &written))
+    }
+
+    /// The case without a row, later rows counted anew; without an entry of a
+    /// table and its roots; or without both.
+    fn simpler(&self, lists: &Lists) -> Vec<Lists> {
+        let count = |list: usize, size: usize| 0..lists[list].len() / size;
+        let reads = count(at::READS, 3).map(|k| without_entry(lists, at::READS, 3 * k, 3));
+        let calls = count(at::CALLS, 4).map(|k| without_entry(lists, at::CALLS, 4 * k, 4));
+        let entries: Vec<Lists> = reads.chain(calls).collect();
+        let mut simpler = entries.clone();
+        for row in count(at::SOURCE, SOURCE.row) {
+            simpler.push(without_source(lists, row));
+            simpler.extend(entries.iter().map(|fewer| without_source(fewer, row)));
+        }
+        let targets = count(at::TARGET, TARGET.row).map(|row| without_target(lists, row));
+        simpler.extend(targets);
+        simpler
+    }
+}
+
+/// An accepted lowering, with lent lists that fit it or have words to spare.
+pub fn undamaged(random: &mut Random, rows: usize) -> Lists {
+    let mut lists = lowering::accepted(random, rows);
+    let source = lists[at::SOURCE].len() / SOURCE.row;
+    let target = lists[at::TARGET].len() / TARGET.row;
+    for rows in [source, target, target, target] {
+        let spare = random.pick(&[0, 0, 0, 0, 1, 2, 5]);
+        lists.push(random.junk(rows + spare));
+    }
+    lists
+}
+
+/// The outcome of an answer, where acceptance writes these lists.
+fn outcome(lists: &Lists, answer: Answer, written: &Written) -> Outcome {
+    let mut after = lists.clone();
+    for (list, written) in after[at::LENT..].iter_mut().zip(written) {
+        *list = rules::lent_after(answer, list, written);
+    }
+    Outcome {
+        answer,
+        lists: after,
+        strayed: false,
+    }
+}
+
+/// The lists without a stretch of one of them.
+fn without(lists: &Lists, list: usize, start: usize, length: usize) -> Lists {
+    let mut fewer = lists.clone();
+    fewer[list].drain(start..start + length);
+    fewer
+}
+
+/// The lists without an entry of a table and without the roots that say that
+/// its variable equals another one.
+fn without_entry(lists: &Lists, table: usize, start: usize, size: usize) -> Lists {
+    let variable = lists[table][start];
+    let row = |number: u64| {
+        let start = usize::try_from(number).ok()?.checked_mul(TARGET.row)?;
+        lists[at::TARGET].get(start..start.checked_add(TARGET.row)?)
+    };
+    let says = |root: u64| {
+        let equal = row(root)
+            .filter(|row| row[0] == BOOL_OR)
+            .and_then(|or| row(or[2]));
+        equal.is_some_and(|equal| equal[1..3].contains(&variable))
+    };
+    let mut fewer = without(lists, table, start, size);
+    fewer[at::TARGET_ROOTS].retain(|&root| !says(root));
+    fewer
+}
+
+/// The number of a row once an earlier one is dropped.
+fn lowered(word: u64, dropped: usize) -> u64 {
+    let counts = word > dropped as u64 && word < 1000;
+    word - u64::from(counts)
+}
+
+fn lower(words: &mut [u64], dropped: usize) {
+    words
+        .iter_mut()
+        .for_each(|word| *word = lowered(*word, dropped));
+}
+
+/// Lowers the operands in the rows of a graph.
+fn lower_operands(rows: &mut [u64], size: usize, dropped: usize) {
+    for row in rows.chunks_exact_mut(size) {
+        let tag = row[0];
+        for k in (1..size).filter(|&k| names_row(tag, k)) {
+            row[k] = lowered(row[k], dropped);
+        }
+    }
+}
+
+/// The lists without a row of the source.
+fn without_source(lists: &Lists, row: usize) -> Lists {
+    let mut fewer = without(lists, at::SOURCE, row * SOURCE.row, SOURCE.row);
+    lower_operands(&mut fewer[at::SOURCE], SOURCE.row, row);
+    lower(&mut fewer[at::SIDE], row);
+    lower(&mut fewer[at::SOURCE_ROOTS], row);
+    if row < fewer[at::MAP].len() {
+        fewer[at::MAP].remove(row);
+    }
+    fewer
+}
+
+/// The lists without a row of the target.
+fn without_target(lists: &Lists, row: usize) -> Lists {
+    let mut fewer = without(lists, at::TARGET, row * TARGET.row, TARGET.row);
+    lower_operands(&mut fewer[at::TARGET], TARGET.row, row);
+    for list in [at::MAP, at::ARGUMENTS, at::TARGET_ROOTS] {
+        lower(&mut fewer[list], row);
+    }
+    for read in fewer[at::READS].chunks_mut(3) {
+        read[0] = lowered(read[0], row);
+        read.iter_mut()
+            .skip(2)
+            .for_each(|index| *index = lowered(*index, row));
+    }
+    for call in fewer[at::CALLS].chunks_mut(4) {
+        call[0] = lowered(call[0], row);
+    }
+    fewer
+}

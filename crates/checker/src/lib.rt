@@ -1,0 +1,107 @@
+// The operation Check.
+ghost use mathlib.Core.Path.{_≡_};
+ghost use mathlib.Core.Bool.{true, false};
+ghost use mathlib.Core.List.{[], _++_};
+ghost use Prim.Native.Nat.{ℕ, _<_, _≤_};
+ghost use lib.ListN.{length, drop};
+ghost use Rattle.answers.specs.Answer.{isAccepted};
+ghost use Rattle.rows.specs.declared.Graph.{Graph};
+ghost use Rattle.rows.specs.Row.{rowCount};
+ghost use Rattle.rows.specs.Encoding.{rowBad};
+ghost use Rattle.wf.specs.Widths.{widths};
+ghost use Rattle.lowering.specs.Check.{firstRefusal, countAnswers, graphAnswers, graphsAnswer};
+use answers::Answer;
+use rows::Graph;
+
+// 15 and 18, with room for some words in each of the four lists.
+fn count_answer(source: &[u64], target: &[u64], w0: usize, w1: usize, c: usize, e: usize) -> Answer
+    ensures answer { λ r. ⌜ r ≡ firstRefusal (countAnswers (now (source .entry)) (now (target .entry)) w0 w1 c e) ⌝ }
+{
+    if rows::is_ragged(Graph::Source, source) {
+        return Answer::RowCount(1);
+    }
+    if rows::is_ragged(Graph::Target, target) {
+        return Answer::RowCount(2);
+    }
+    if w0 < rows::row_count(Graph::Source, source) {
+        return Answer::WorkShort(1);
+    }
+    let n = rows::row_count(Graph::Target, target);
+    if w1 < n {
+        return Answer::WorkShort(2);
+    }
+    if c < n {
+        return Answer::WorkShort(3);
+    }
+    if e < n {
+        return Answer::WorkShort(4);
+    }
+    Answer::Accepted
+}
+
+// 16, 17, 1 and 2, where each graph's rows before its row `stop` are good and well formed and that row, if there is one, is badly encoded or ill-formed.
+fn graph_answer(
+    source: &[u64],
+    ebits: &[u8],
+    target: &[u64],
+    tbits: &[u8],
+    stop0: usize,
+    stop1: usize,
+) -> Answer
+    requires { ⌜ stop0 ≤ rowCount Graph.Source (now source) ⌝ }
+    requires { ⌜ ((j : ℕ) → j < stop0 → rowBad Graph.Source (now source) j ≡ false) ⌝ }
+    requires { ⌜ stop1 ≤ rowCount Graph.Target (now target) ⌝ }
+    requires { ⌜ ((j : ℕ) → j < stop1 → rowBad Graph.Target (now target) j ≡ false) ⌝ }
+    ensures answer { λ r. ⌜ r ≡ firstRefusal (graphAnswers (now (source .entry)) (now (ebits .entry)) (now (target .entry)) (now (tbits .entry)) stop0 stop1) ⌝ }
+{
+    let row0 = rows::bad_row(Graph::Source, source, stop0);
+    if row0 < rows::row_count(Graph::Source, source) {
+        return Answer::BadRow(row0 as u64, 1);
+    }
+    let row1 = rows::bad_row(Graph::Target, target, stop1);
+    if row1 < rows::row_count(Graph::Target, target) {
+        return Answer::BadRow(row1 as u64, 2);
+    }
+    let bit0 = rows::bad_bit(ebits);
+    if bit0 < ebits.len() {
+        return Answer::BadBit(bit0 as u64, 1);
+    }
+    let bit1 = rows::bad_bit(tbits);
+    if bit1 < tbits.len() {
+        return Answer::BadBit(bit1 as u64, 2);
+    }
+    if stop0 < row0 {
+        return Answer::Ext(stop0 as u64);
+    }
+    if stop1 < row1 {
+        return Answer::Core(stop1 as u64);
+    }
+    Answer::Accepted
+}
+
+// The widths of both graphs, or the first refusal by 01's order.
+fn graphs(
+    source: &[u64],
+    ebits: &[u8],
+    eside: &[u64],
+    target: &[u64],
+    tbits: &[u8],
+    ws0: &mut [u64],
+    ws1: &mut [u64],
+) -> Answer
+    requires { ⌜ rowCount Graph.Source (now source) ≤ length (now ws0) ⌝ }
+    requires { ⌜ rowCount Graph.Target (now target) ≤ length (now ws1) ⌝ }
+    ensures answer { λ r. ⌜ r ≡ graphsAnswer (now (source .entry)) (now (ebits .entry)) (now (eside .entry)) (now (target .entry)) (now (tbits .entry)) ⌝ }
+    ensures source_list { λ r. ⌜ (isAccepted r ≡ true → now (ws0 .exit) ≡ widths Graph.Source (length (now (ebits .entry))) (now (eside .entry)) (now (source .entry)) ++ drop (rowCount Graph.Source (now (source .entry))) (now (ws0 .entry))) ⌝ }
+    ensures target_list { λ r. ⌜ (isAccepted r ≡ true → now (ws1 .exit) ≡ widths Graph.Target (length (now (tbits .entry))) [] (now (target .entry)) ++ drop (rowCount Graph.Target (now (target .entry))) (now (ws1 .entry))) ⌝ }
+{
+    let stop0 = wf::graph_wf(Graph::Source, source, ebits.len() as u64, eside, ws0);
+    let stop1 = wf::graph_wf(
+        Graph::Target,
+        target,
+        tbits.len() as u64,
+        &target[0..0],
+        ws1,
+    );
+    graph_answer(source, ebits, target, tbits, stop0, stop1)
+}
