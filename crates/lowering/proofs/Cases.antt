@@ -15,7 +15,7 @@ use Rattle.lowering.specs.Images.{MAX, rowIs, bothConst, sameConst, uneq
 use Rattle.lowering.specs.Tables.{sameRead, sameFunction, sameCall, readGood, callGood}
 use Rattle.lowering.specs.Matching.{isEq, isLevel, walk, endGood, callMatches, varMatches, nodeMatches, rowAnswer, rowClasses}
 use Rattle.lowering.specs.Roots.{leads, pairsWith, pairs, readsNeed, allEqual, congruent, rootAt}
-use Rattle.lowering.specs.Check.{Lowering, Outcome, firstRefusal, check, checkAnswer}
+use Rattle.lowering.specs.Check.{Lowering, lowering, Outcome, firstRefusal, check, checkAnswer}
 
 -- rows, one after the other
 abbrev s5 : ℕ → ℕ → ℕ → ℕ → ℕ → List ℕ → List ℕ
@@ -23,10 +23,6 @@ s5 t a b c d rest = t ∷ a ∷ b ∷ c ∷ d ∷ rest
 
 abbrev t4 : ℕ → ℕ → ℕ → ℕ → List ℕ → List ℕ
 t4 t a b c rest = t ∷ a ∷ b ∷ c ∷ rest
-
-abbrev lowering : List ℕ → List ℕ → List ℕ → List ℕ → List ℕ → List ℕ → List ℕ → List ℕ → List ℕ → List ℕ → List ℕ → Lowering
-lowering source ebits eside eroots map reads calls cargs target tbits troots =
-    record { source = source; ebits = ebits; eside = eside; eroots = eroots; map = map; reads = reads; calls = calls; cargs = cargs; target = target; tbits = tbits; troots = troots }
 
 -- the answer with room for twenty words in each list
 abbrev answer : Lowering → Words

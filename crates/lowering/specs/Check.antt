@@ -31,6 +31,10 @@ pub record Lowering : Type 0 where
   pub tbits : List ℕ
   pub troots : List ℕ
 
+abbrev pub lowering : List ℕ → List ℕ → List ℕ → List ℕ → List ℕ → List ℕ → List ℕ → List ℕ → List ℕ → List ℕ → List ℕ → Lowering
+lowering source ebits eside eroots map reads calls cargs target tbits troots =
+    record { source = source; ebits = ebits; eside = eside; eroots = eroots; map = map; reads = reads; calls = calls; cargs = cargs; target = target; tbits = tbits; troots = troots }
+
 module _ (L : Lowering) where
   abbrev pub sourceRows : ℕ
   sourceRows = rowCount Source (L .source)
@@ -66,12 +70,6 @@ module _ (L : Lowering) where
   abbrev pub offsets : List ℕ
   offsets = callOffsets (L .calls) (readOffsets (L .reads) (replicate targetRows 0) (readCount (L .reads))) (callCount (L .calls))
 
-  abbrev pub badReadEntry : ℕ
-  badReadEntry = badRead (L .reads) (L .target) targetWidths noClasses
-
-  abbrev pub badCallEntry : ℕ
-  badCallEntry = badCall (L .calls) (L .cargs) (L .target) classesOfReads
-
   -- the answer of row i, and the first row that is refused
   abbrev pub answerOf : ℕ → Answer
   answerOf i =
@@ -82,9 +80,6 @@ module _ (L : Lowering) where
 
   abbrev pub deadVariable : ℕ
   deadVariable = deadEntry (classes sourceRows) targetRows
-
-  abbrev pub badLeadRoot : ℕ
-  badLeadRoot = badLead (L .map) (L .eroots) (L .troots)
 
   abbrev pub pairsOfReads : List Pair
   pairsOfReads = readPairs (L .reads) (L .target) (L .tbits)
@@ -98,12 +93,6 @@ module _ (L : Lowering) where
 
   abbrev pub rootsEnd : ℕ
   rootsEnd = callRoots + length pairsOfCalls
-
-  abbrev pub badReadRoot : ℕ
-  badReadRoot = badCong (L .troots) (readRoot (L .reads) (L .target)) (length (L .eroots)) pairsOfReads
-
-  abbrev pub badCallRoot : ℕ
-  badCallRoot = badCong (L .troots) (callRoot (L .calls) (L .cargs) (L .target)) callRoots pairsOfCalls
 
 -- a refusal where a test passes
 abbrev pub refuse : Bool → Answer → Answer
@@ -144,23 +133,35 @@ graphsAnswer source ebits eside target tbits =
 
 -- "12 RootMismatch; 13 CongruenceMismatch (position in the target root list, possibly its length); 12 for surplus roots."
 -- The place of 12 is the position of the first source root that has no image, differs or finds the list ended; roots left over have none
-abbrev pub rootAnswers : Lowering → List Answer
-rootAnswers L =
-    refuse (ltb (badLeadRoot L) (length (L .eroots))) (RootMismatch (badLeadRoot L))
-    ∷ refuse (ltb (badReadRoot L) (length (pairsOfReads L))) (CongruenceMismatch (length (L .eroots) + badReadRoot L))
-    ∷ refuse (ltb (badCallRoot L) (length (pairsOfCalls L))) (CongruenceMismatch (callRoots L + badCallRoot L))
-    ∷ refuse (not (eqb (length (L .troots)) (rootsEnd L))) (RootMismatch 0)
+abbrev pub rootAnswers : List ℕ → List ℕ → List ℕ → List ℕ → List ℕ → List ℕ → List ℕ → List ℕ → List Answer
+rootAnswers eroots map reads calls cargs target tbits troots =
+    let lead = badLead map eroots troots in
+    let ps = readPairs reads target tbits in
+    let qs = callPairs calls in
+    let from = length eroots + length ps in
+    let r = badCong troots (readRoot reads target) (length eroots) ps in
+    let c = badCong troots (callRoot calls cargs target) from qs in
+    refuse (ltb lead (length eroots)) (RootMismatch lead)
+    ∷ refuse (ltb r (length ps)) (CongruenceMismatch (length eroots + r))
+    ∷ refuse (ltb c (length qs)) (CongruenceMismatch (from + c))
+    ∷ refuse (not (eqb (length troots) (from + length qs))) (RootMismatch 0)
     ∷ []
+
+-- "5 ReadTable (entry); 6 CallTable (entry)", over the target's widths and its classes, "first 0"
+abbrev pub tableAnswers : List ℕ → List ℕ → List ℕ → List ℕ → List ℕ → List ℕ → List Answer
+tableAnswers reads calls cargs target ws cls =
+    let r = badRead reads target ws cls in
+    let c = badCall calls cargs target (readClasses reads cls (readCount reads)) in
+    refuse (ltb r (readCount reads)) (ReadTable r) ∷ refuse (ltb c (callCount calls)) (CallTable c) ∷ []
 
 -- "3 MapLength (expected, found); 5 ReadTable (entry); 6 CallTable (entry) .. Then by row 4 .. 11. Then 14 DeadEntry (first variable)", then the roots
 abbrev pub matchAnswers : Lowering → List Answer
 matchAnswers L =
     refuse (not (eqb (length (L .map)) (sourceRows L))) (MapLength (sourceRows L) (length (L .map)))
-    ∷ refuse (ltb (badReadEntry L) (readCount (L .reads))) (ReadTable (badReadEntry L))
-    ∷ refuse (ltb (badCallEntry L) (callCount (L .calls))) (CallTable (badCallEntry L))
-    ∷ refuse (ltb (mismatch L) (sourceRows L)) (answerOf L (mismatch L))
+    ∷ tableAnswers (L .reads) (L .calls) (L .cargs) (L .target) (targetWidths L) (noClasses L)
+    ++ (refuse (ltb (mismatch L) (sourceRows L)) (answerOf L (mismatch L))
     ∷ refuse (ltb (deadVariable L) (targetRows L)) (DeadEntry (deadVariable L))
-    ∷ rootAnswers L
+    ∷ rootAnswers (L .eroots) (L .map) (L .reads) (L .calls) (L .cargs) (L .target) (L .tbits) (L .troots))
 
 -- the answer, with room for some words in each of the four lists
 abbrev pub checkAnswer : Lowering → ℕ → ℕ → ℕ → ℕ → Answer
