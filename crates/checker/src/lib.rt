@@ -9,7 +9,9 @@ ghost use Rattle.rows.specs.declared.Graph.{Graph};
 ghost use Rattle.rows.specs.Row.{rowCount};
 ghost use Rattle.rows.specs.Encoding.{rowBad};
 ghost use Rattle.wf.specs.Widths.{widths};
-ghost use Rattle.lowering.specs.Check.{firstRefusal, countAnswers, graphAnswers, graphsAnswer};
+ghost use Rattle.lowering.specs.Check.{firstRefusal, countAnswers, graphAnswers, graphsAnswer, rootAnswers};
+ghost use Rattle.congruence.specs.Walk.{ReadsIn, CallsIn};
+ghost use Rattle.images.specs.Bits.{ConstsWithin};
 use answers::Answer;
 use rows::Graph;
 
@@ -104,4 +106,38 @@ fn graphs(
         ws1,
     );
     graph_answer(source, ebits, target, tbits, stop0, stop1)
+}
+
+// 12, 13 and 12 for roots left over, where the tables have passed.
+fn roots(
+    eroots: &[u64],
+    map: &[u64],
+    reads: &[u64],
+    calls: &[u64],
+    cargs: &[u64],
+    target: &[u64],
+    tbits: &[u8],
+    troots: &[u64],
+) -> Answer
+    requires { ⌜ ReadsIn (now reads) (now target) ⌝ }
+    requires { ⌜ CallsIn (now calls) (now cargs) ⌝ }
+    requires { ⌜ ConstsWithin Graph.Target (now tbits) (now target) ⌝ }
+    ensures answer { λ r. ⌜ r ≡ firstRefusal (rootAnswers (now (eroots .entry)) (now (map .entry)) (now (reads .entry)) (now (calls .entry)) (now (cargs .entry)) (now (target .entry)) (now (tbits .entry)) (now (troots .entry))) ⌝ }
+{
+    let lead = congruence::ext_roots_corr(eroots, map, troots);
+    if lead < eroots.len() {
+        return Answer::RootMismatch(lead as u64);
+    }
+    let a = congruence::array_cong(reads, target, tbits, troots, eroots.len());
+    if !a.ok {
+        return Answer::CongruenceMismatch(a.next as u64);
+    }
+    let u = congruence::uf_cong(calls, cargs, target, troots, a.next);
+    if !u.ok {
+        return Answer::CongruenceMismatch(u.next as u64);
+    }
+    if u.next != troots.len() {
+        return Answer::RootMismatch(0);
+    }
+    Answer::Accepted
 }

@@ -90,7 +90,7 @@ fn ite_width(c: u64, t: u64, e: u64) -> u64
 }
 
 // Row a is earlier and has width w.
-fn has_width(ws: &[u64], a: u64, w: u64) -> bool
+pub fn has_width(ws: &[u64], a: u64, w: u64) -> bool
     ensures test { λ r. ⌜ r ≡ hasWidth (now (ws .entry)) a w ⌝ }
 {
     if ws.len() as u64 <= a {
@@ -143,7 +143,8 @@ fn chain_wf(ws: &[u64], side: &[u64], s: u64, k: u64, iw: u64, cw: u64) -> bool
     pairs_wf(ws, side, s as usize, k as usize, iw, cw)
 }
 
-fn list_wf(n: u64, side: &[u64], s: usize, k: usize) -> bool
+// The k rows from s on in a side list are below n.
+pub fn list_wf(n: u64, side: &[u64], s: usize, k: usize) -> bool
     requires { ⌜ s + k ≤ length (now side) ⌝ }
     ensures test { λ r. ⌜ r ≡ none (argBad n (now (side .entry)) s) k ⌝ }
 {

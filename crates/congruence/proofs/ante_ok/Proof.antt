@@ -1,0 +1,146 @@
+-- `congruence::ante_ok` meets its contract: what is left of the nest says what the whole says. Assumes nothing.
+use Prim.Native.Nat.{_<_, _-_, _+_}
+use mathlib.Core.Path.{_≡_, refl, _∙_, sym}
+use native.Mathlib.Nat.{add-zero}
+use native.Mathlib.Omega.{arith}
+use borrow.Author.Needs.{needs}
+use borrow.Author.Tests.{eq-eqb, ne-eqb, not-true, not-false}
+use lib.ListN.{getD}
+use Rattle.lowering.specs.Roots.{allEqual}
+use Rattle.congruence.proofs.Shape.{all-out, all-one, all-tag, all-last, all-rest}
+use Rattle.congruence.proofs.ante_ok.Statement.{statement}
+use Rattle.congruence.proofs.ante_ok.Tie as tie
+
+abbrev Inv-loop : tie.InvT-loop
+Inv-loop target cargs sp sq k a n cur₀ l₀ cur l =
+    (l < k) × (allEqual target (λ i. getD cargs (sp + i) 0) (λ i. getD cargs (sq + i) 0) (k - 1) a
+    ≡ allEqual target (λ i. getD cargs (sp + i) 0) (λ i. getD cargs (sq + i) 0) l cur)
+
+abbrev μ-loop : tie.MeasureT-loop
+μ-loop target cargs sp sq k a n cur₀ l₀ cur l = l
+
+row-count-requires : tie.Need-row-count-requires Inv-loop μ-loop
+row-count-requires c κs = search needs
+
+sub-l : tie.Need-sub-l Inv-loop μ-loop
+sub-l c = search needs
+
+loop-holds : tie.Need-loop-holds Inv-loop μ-loop
+loop-holds c = (omega arith, refl)
+
+returns : tie.Need-returns Inv-loop μ-loop
+returns c = sym (c .before .before .loop .inv .1 ∙ all-out _ _ _ (c .before .before .loop .l) (c .before .before .loop .cur) (rw (c .before .before .before .row-count .ensures) at (c .if1 .taken)))
+
+row-requires : tie.Need-row-requires Inv-loop μ-loop
+row-requires c κs = search needs
+
+array-read-if2 : tie.Need-array-read-if2 Inv-loop μ-loop
+array-read-if2 c = search needs
+
+returns-2 : tie.Need-returns-2 Inv-loop μ-loop
+returns-2 c =
+    sym
+    (c .before .before .before .before .loop .inv .1
+    ∙ all-tag _ _ _ (c .before .before .before .before .loop .l) (c .before .before .before .before .loop .cur) (c .before .before .before .loop-test .taken) (rw (c .before .before .before .before .before .row-count .ensures) at (c .before .before .if1 .left)) (ne-eqb _ _ (rw (c .before .row .ensures) at (c .if2 .taken))))
+
+add-is-eq : tie.Need-add-is-eq Inv-loop μ-loop
+add-is-eq c = search needs
+
+mul-is-eq : tie.Need-mul-is-eq Inv-loop μ-loop
+mul-is-eq c = search needs
+
+shared-slice-read-is-eq : tie.Need-shared-slice-read-is-eq Inv-loop μ-loop
+shared-slice-read-is-eq c = search needs
+
+add-is-eq-2 : tie.Need-add-is-eq-2 Inv-loop μ-loop
+add-is-eq-2 c = search needs
+
+mul-is-eq-2 : tie.Need-mul-is-eq-2 Inv-loop μ-loop
+mul-is-eq-2 c = search needs
+
+shared-slice-read-is-eq-2 : tie.Need-shared-slice-read-is-eq-2 Inv-loop μ-loop
+shared-slice-read-is-eq-2 c = search needs
+
+array-read-is-eq : tie.Need-array-read-is-eq Inv-loop μ-loop
+array-read-is-eq c = search needs
+
+is-eq-requires : tie.Need-is-eq-requires Inv-loop μ-loop
+is-eq-requires c κs = search needs
+
+returns-3 : tie.Need-returns-3 Inv-loop μ-loop
+returns-3 c =
+    sym
+    (c .before .before .before .before .before .before .before .before .loop .inv .1
+    ∙ all-last _ _ _ (c .before .before .before .before .before .before .before .before .loop .l) (c .before .before .before .before .before .before .before .before .loop .cur) (c .before .before .before .before .before .before .before .loop-test .taken) (rw (c .before .before .before .before .before .before .before .before .before .row-count .ensures) at (c .before .before .before .before .before .before .if1 .left)) (eq-eqb _ _ (rw (c .before .before .before .before .before .row .ensures) at (c .before .before .before .before .if2 .left)))
+    (rw (c .before .before .before .before .before .row .ensures) at (sym (c .before .is-eq .ensures) ∙ not-true _ (c .if3 .taken))))
+
+array-read-cur : tie.Need-array-read-cur Inv-loop μ-loop
+array-read-cur c = search needs
+
+sub-l-2 : tie.Need-sub-l-2 Inv-loop μ-loop
+sub-l-2 c = search needs
+
+loop-less : tie.Need-loop-less Inv-loop μ-loop
+loop-less c = omega arith
+
+loop-again : tie.Need-loop-again Inv-loop μ-loop
+loop-again c = (
+  omega arith,
+  c .before .before .before .before .before .before .before .before .loop .inv .1
+      ∙ all-rest _ _ _ (c .before .before .before .before .before .before .before .before .loop .l) (c .before .before .before .before .before .before .before .before .loop .cur) (c .before .before .before .before .before .before .before .loop-test .taken) (rw (c .before .before .before .before .before .before .before .before .before .row-count .ensures) at (c .before .before .before .before .before .before .if1 .left)) (eq-eqb _ _ (rw (c .before .before .before .before .before .row .ensures) at (c .before .before .before .before .if2 .left)))
+      (rw (c .before .before .before .before .before .row .ensures) at (sym (c .before .is-eq .ensures) ∙ not-false _ (c .if3 .left)))
+      ∙ rw (c .before .before .before .before .before .row .ensures),
+)
+
+mul-is-eq-3 : tie.Need-mul-is-eq-3 Inv-loop μ-loop
+mul-is-eq-3 c = search needs
+
+shared-slice-read-is-eq-3 : tie.Need-shared-slice-read-is-eq-3 Inv-loop μ-loop
+shared-slice-read-is-eq-3 c = search needs
+
+mul-is-eq-4 : tie.Need-mul-is-eq-4 Inv-loop μ-loop
+mul-is-eq-4 c = search needs
+
+shared-slice-read-is-eq-4 : tie.Need-shared-slice-read-is-eq-4 Inv-loop μ-loop
+shared-slice-read-is-eq-4 c = search needs
+
+is-eq-requires-2 : tie.Need-is-eq-requires-2 Inv-loop μ-loop
+is-eq-requires-2 c κs = search needs
+
+returns-4 : tie.Need-returns-4 Inv-loop μ-loop
+returns-4 c =
+    c .is-eq2 .ensures
+    ∙ sym (c .before .before .before .before .loop .inv .1 ∙ all-one _ _ _ (c .before .before .before .before .loop .l) (c .before .before .before .before .loop .cur) (c .before .before .before .loop-test .left) ∙ simp add-zero)
+
+pub ante-ok-spec : {M : Type 1} → statement M
+ante-ok-spec =
+    tie.close
+    (tie.spec
+    Inv-loop
+    μ-loop
+    row-count-requires
+    sub-l
+    loop-holds
+    returns
+    row-requires
+    array-read-if2
+    returns-2
+    add-is-eq
+    mul-is-eq
+    shared-slice-read-is-eq
+    add-is-eq-2
+    mul-is-eq-2
+    shared-slice-read-is-eq-2
+    array-read-is-eq
+    is-eq-requires
+    returns-3
+    array-read-cur
+    sub-l-2
+    loop-less
+    loop-again
+    mul-is-eq-3
+    shared-slice-read-is-eq-3
+    mul-is-eq-4
+    shared-slice-read-is-eq-4
+    is-eq-requires-2
+    returns-4)

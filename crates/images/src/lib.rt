@@ -1,0 +1,136 @@
+// Rows and their images: the map, mapped rows, and tests on one or two rows.
+ghost use mathlib.Core.Path.{_≡_};
+ghost use mathlib.Core.Bool.{true};
+ghost use Prim.Native.Nat.{_≤_, _+_};
+ghost use lib.ListN.{length, getD};
+ghost use Rattle.lists.specs.Tests.{agree};
+ghost use Rattle.rows.specs.declared.Node.{Node};
+ghost use Rattle.rows.specs.Tags.{tEq};
+ghost use Rattle.rows.specs.Node.{nodeFrom, nodeOf};
+ghost use Rattle.lowering.specs.Images.{mapAt, mapNode, rowOf, rowIs, bothConst, sameConst, unequalConst};
+ghost use Rattle.lowering.specs.Matching.{isEq};
+ghost use Rattle.images.specs.Bits.{BitsWithin};
+use rows::Graph;
+
+// No row has this number.
+const MAX: u64 = 0xffff_ffff_ffff_ffff;
+
+// The image of row a, MAX past the map.
+pub fn map_at(map: &[u64], a: u64) -> u64
+    ensures row { λ r. ⌜ r ≡ mapAt (now (map .entry)) a ⌝ }
+{
+    if map.len() as u64 <= a {
+        return MAX;
+    }
+    let i = a as usize;
+    map[i]
+}
+
+fn map_from(map: &[u64], t: u64, a: u64, b: u64, c: u64, d: u64) -> [u64; 5]
+    ensures row { λ r. ⌜ r ≡ rowOf (mapNode (now (map .entry)) (nodeFrom t a b c d)) ⌝ }
+{
+    match t {
+        0 => [0, a, 0, 0, 0],
+        1 => [1, a, b, 0, 0],
+        14 => [14, a, b, map_at(map, c), 0],
+        16 => [16, map_at(map, a), b, 0, 0],
+        17 => [17, map_at(map, a), b, 0, 0],
+        18 => [18, map_at(map, a), map_at(map, b), map_at(map, c), 0],
+        29 => [29, map_at(map, a), 0, 0, 0],
+        32 => [32, map_at(map, a), 0, 0, 0],
+        33 => [33, map_at(map, a), 0, 0, 0],
+        37 => [37, a, b, c, d],
+        38 => [38, a, b, c, d],
+        _ => {
+            if t < 37 {
+                [t, map_at(map, a), map_at(map, b), 0, 0]
+            } else {
+                [39, 0, 0, 0, 0]
+            }
+        }
+    }
+}
+
+// The row with its operands mapped.
+pub fn map_node(map: &[u64], r: [u64; 5]) -> [u64; 5]
+    ensures row { λ q. ⌜ q ≡ rowOf (mapNode (now (map .entry)) (nodeOf r)) ⌝ }
+{
+    map_from(map, r[0], r[1], r[2], r[3], r[4])
+}
+
+pub fn row_is_var(r: [u64; 5], w: u64) -> bool
+    ensures test { λ b. ⌜ b ≡ rowIs r (Node.Var w) ⌝ }
+{
+    rows::node_eq(r, [0, w, 0, 0, 0])
+}
+
+pub fn row_is_eq(r: [u64; 5], a: u64, b: u64) -> bool
+    ensures test { λ t. ⌜ t ≡ rowIs r (Node.Bin tEq a b) ⌝ }
+{
+    rows::node_eq(r, [19, a, b, 0, 0])
+}
+
+// The w bits of rbits from s on are those of qbits from t on.
+pub fn bits_eq(rbits: &[u8], s: usize, qbits: &[u8], t: usize, w: usize) -> bool
+    requires { ⌜ (s + w ≤ length (now rbits)) × (t + w ≤ length (now qbits)) ⌝ }
+    ensures test { λ r. ⌜ r ≡ agree (λ k. getD (now (rbits .entry)) (s + k) 0) (λ k. getD (now (qbits .entry)) (t + k) 0) w ⌝ }
+{
+    let mut j = 0;
+    while j < w {
+        if rbits[s + j] != qbits[t + j] {
+            return false;
+        }
+        j += 1;
+    }
+    true
+}
+
+pub fn both_const(r: [u64; 5], q: [u64; 5]) -> bool
+    ensures test { λ b. ⌜ b ≡ bothConst r q ⌝ }
+{
+    if r[0] != 1 {
+        return false;
+    }
+    q[0] == 1
+}
+
+// Two constants are of one width and bits.
+pub fn same_bits(rbits: &[u8], r: [u64; 5], qbits: &[u8], q: [u64; 5]) -> bool
+    requires { ⌜ BitsWithin (now rbits) r × BitsWithin (now qbits) q × (bothConst r q ≡ true) ⌝ }
+    ensures test { λ b. ⌜ b ≡ sameConst (now (rbits .entry)) r (now (qbits .entry)) q ⌝ }
+{
+    if r[2] != q[2] {
+        return false;
+    }
+    bits_eq(rbits, r[1] as usize, qbits, q[1] as usize, r[2] as usize)
+}
+
+pub fn same_const(rbits: &[u8], r: [u64; 5], qbits: &[u8], q: [u64; 5]) -> bool
+    requires { ⌜ BitsWithin (now rbits) r × BitsWithin (now qbits) q ⌝ }
+    ensures test { λ b. ⌜ b ≡ sameConst (now (rbits .entry)) r (now (qbits .entry)) q ⌝ }
+{
+    if !both_const(r, q) {
+        return false;
+    }
+    same_bits(rbits, r, qbits, q)
+}
+
+pub fn unequal_const(bits: &[u8], r: [u64; 5], q: [u64; 5]) -> bool
+    requires { ⌜ BitsWithin (now bits) r × BitsWithin (now bits) q ⌝ }
+    ensures test { λ b. ⌜ b ≡ unequalConst (now (bits .entry)) r q ⌝ }
+{
+    if !both_const(r, q) {
+        return false;
+    }
+    !same_bits(bits, r, bits, q)
+}
+
+// Target row r is Eq(a, b).
+pub fn is_eq(target: &[u64], a: u64, b: u64, r: u64) -> bool
+    ensures test { λ t. ⌜ t ≡ isEq (now (target .entry)) a b r ⌝ }
+{
+    if rows::row_count(Graph::Target, target) as u64 <= r {
+        return false;
+    }
+    row_is_eq(rows::row(Graph::Target, target, r as usize), a, b)
+}

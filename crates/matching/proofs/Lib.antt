@@ -1,0 +1,5 @@
+pub mod Laws
+pub mod Walk
+pub mod Rows
+pub mod Outcome
+pub mod Loop

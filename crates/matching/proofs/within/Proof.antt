@@ -1,0 +1,14 @@
+-- `matching::within` meets its contract. Assumes nothing.
+use mathlib.Core.Path.{sym}
+use Rattle.matching.proofs.Laws.{within-short, within-rest}
+use Rattle.matching.proofs.within.Statement.{statement}
+use Rattle.matching.proofs.within.Tie as tie
+
+returns : tie.Need-returns
+returns c = sym (within-short _ _ _ (c .if1 .taken))
+
+returns-2 : tie.Need-returns-2
+returns-2 c = within-rest _ _ _ (c .if1 .left)
+
+pub within-spec : {M : Type 1} → statement M
+within-spec = tie.close (tie.spec returns returns-2)

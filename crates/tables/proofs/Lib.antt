@@ -1,0 +1,4 @@
+pub mod Order
+pub mod Marks
+pub mod ReadTable
+pub mod CallTable

@@ -1,0 +1,143 @@
+-- `tables::call_entries` meets its contract: the entries before k are good, and both lists have their marks. Assumes nothing.
+use Prim.Native.Nat.{ℕ, _≤_, _<_, _*_, _+_, _-_}
+use mathlib.Core.Path.{_≡_, refl, _∙_, sym, ap}
+use mathlib.Core.Bool.{true, false, not}
+use native.Mathlib.Nat.{not-suc-le-zero}
+use native.Mathlib.Omega.{arith}
+use borrow.Author.Count.{below-more}
+use borrow.Author.Needs.{needs}
+use borrow.Author.Tests.{not-false}
+use lib.ListN.{length, getD, length-set}
+use Rattle.lists.proofs.First.{first-at, first-past}
+use Rattle.lowering.specs.Tables.{callCount, callGood, callClasses, callOffsets}
+use Rattle.tables.proofs.Marks.{marks-none, marks-more}
+use Rattle.tables.proofs.CallTable.{call-good, args-within}
+use Rattle.tables.proofs.call_entries.Statement.{statement}
+use Rattle.tables.proofs.call_entries.Tie as tie
+
+abbrev Inv-loop : tie.InvT-loop
+Inv-loop calls cargs target cls₀ ent₀ m off₀ k₀ cls ent off k =
+    (off ≡ k * 4) × (k ≤ callCount calls) × (length cls ≡ length cls₀) × (length ent ≡ length ent₀) × (cls ≡ callClasses calls cls₀ k) × (ent ≡ callOffsets calls ent₀ k) ×
+    ((j : ℕ) → j < k → not (callGood calls cargs target (callClasses calls cls₀ j) j) ≡ false)
+
+abbrev μ-loop : tie.MeasureT-loop
+μ-loop calls cargs target cls₀ ent₀ m off₀ k₀ cls ent off k = length calls - off
+
+loop-holds : tie.Need-loop-holds Inv-loop μ-loop
+loop-holds c = (omega arith, omega arith, refl, refl, marks-none _ _ _, marks-none _ _ _, λ j h. absurd (not-suc-le-zero h))
+
+call-entry-requires : tie.Need-call-entry-requires Inv-loop μ-loop
+call-entry-requires c κs =
+    let l = c .before .before .loop in
+    (omega arith, (args-within _ _ (c .before .before .before .before .before .before .before .before .args .target .now) _ _ (l .inv .6), l .inv .2 ∙ c .before .before .before .before .before .before .before .before .pre .0))
+
+same-length : tie.Need-same-length Inv-loop μ-loop
+same-length c = search needs
+
+same-length-2 : tie.Need-same-length-2 Inv-loop μ-loop
+same-length-2 c = search needs
+
+returns : tie.Need-returns Inv-loop μ-loop
+returns c =
+    let s = c .before .before .before .before .before .before .before .before .before .before .args in
+    let l = c .before .before .before .before .loop in (
+      sym (first-at (λ j. not (callGood (s .calls .now) (s .cargs .now) (s .target .now) (callClasses (s .calls .now) (s .cls .now) j) j)) _ _ (omega arith)
+          (ap not (rw (l .inv .4) at (sym (c .before .call-entry .ensures))) ∙ c .if1 .taken) (l .inv .6)),
+      (l .inv .4, l .inv .5),
+    )
+
+-- the entry is good: it is whole, and its variable has a place in both lists
+good : (c : tie.Else1 Inv-loop μ-loop) →
+    let s = c .before .before .before .before .before .before .before .before .before .before .args in
+    let l = c .before .before .before .before .loop in
+    callGood (s .calls .now) (s .cargs .now) (s .target .now) (l .cls) (l .k) ≡ true
+good c = sym (c .before .call-entry .ensures) ∙ not-false _ (c .if1 .left)
+
+fits : (c : tie.Else1 Inv-loop μ-loop) →
+    let s = c .before .before .before .before .before .before .before .before .before .before .args in
+    let l = c .before .before .before .before .loop in
+    (l .off + 4 ≤ length (s .calls .now)) × (getD (s .calls .now) (l .off) 0 < length (l .cls)) × (getD (s .calls .now) (l .off) 0 < length (l .ent))
+fits c =
+    let s = c .before .before .before .before .before .before .before .before .before .before in
+    let l = c .before .before .before .before .loop in
+    let (a, d, _) = call-good _ _ _ _ _ (good c) in
+    (omega (arith, a), rw (l .inv .0, l .inv .2, s .pre .0) d, rw (l .inv .0, l .inv .3, s .pre .1) d)
+
+mul-v : tie.Need-mul-v Inv-loop μ-loop
+mul-v c = search needs
+
+shared-slice-read-v : tie.Need-shared-slice-read-v Inv-loop μ-loop
+shared-slice-read-v c = search needs
+
+mul-cls : tie.Need-mul-cls Inv-loop μ-loop
+mul-cls c = let h = fits (c .before) .1 in search needs
+
+slice-write-cls : tie.Need-slice-write-cls Inv-loop μ-loop
+slice-write-cls c = fits (c .before) .1
+
+mul-ent : tie.Need-mul-ent Inv-loop μ-loop
+mul-ent c = let h = fits (c .before) .2 in search needs
+
+slice-write-ent : tie.Need-slice-write-ent Inv-loop μ-loop
+slice-write-ent c = fits (c .before) .2
+
+add-off : tie.Need-add-off Inv-loop μ-loop
+add-off c = let h = fits (c .before) .0 in omega arith
+
+add-k : tie.Need-add-k Inv-loop μ-loop
+add-k c = let h = fits (c .before) .0 in omega arith
+
+loop-less : tie.Need-loop-less Inv-loop μ-loop
+loop-less c = let h = fits (c .before) .0 in omega arith
+
+loop-again : tie.Need-loop-again Inv-loop μ-loop
+loop-again c =
+    let s = c .before .before .before .before .before .before .before .before .before .before .before .args in
+    let l = c .before .before .before .before .before .loop in
+    let h = fits (c .before) .0 in
+    let v = ap (λ (z : ℕ). getD (s .calls .now) z 0) (l .inv .0) in (
+      omega arith,
+      omega arith,
+      simp length-set (l .inv .2),
+      simp length-set (l .inv .3),
+      marks-more _ _ _ _ (l .inv .4) v refl,
+      marks-more _ _ _ _ (l .inv .5) v (l .inv .0),
+      below-more _ _ (l .inv .6) (ap not (rw (l .inv .4) at (good (c .before)))),
+    )
+
+same-length-3 : tie.Need-same-length-3 Inv-loop μ-loop
+same-length-3 c = search needs
+
+same-length-4 : tie.Need-same-length-4 Inv-loop μ-loop
+same-length-4 c = search needs
+
+returns-2 : tie.Need-returns-2 Inv-loop μ-loop
+returns-2 c =
+    let s = c .before .before .before .before .before .before .before .args in
+    let l = c .before .loop in
+    (sym (first-past (λ j. not (callGood (s .calls .now) (s .cargs .now) (s .target .now) (callClasses (s .calls .now) (s .cls .now) j) j)) _ _ (l .inv .1) (omega arith) (l .inv .6)), (l .inv .4, l .inv .5))
+
+pub call-entries-spec : {M : Type 1} → statement M
+call-entries-spec =
+    tie.close
+    (tie.spec
+    Inv-loop
+    μ-loop
+    loop-holds
+    call-entry-requires
+    same-length
+    same-length-2
+    returns
+    mul-v
+    shared-slice-read-v
+    mul-cls
+    slice-write-cls
+    mul-ent
+    slice-write-ent
+    add-off
+    add-k
+    loop-less
+    loop-again
+    same-length-3
+    same-length-4
+    returns-2)
