@@ -168,17 +168,8 @@ fn chain_walk(
         if k <= l {
             break 'pairs Walk::RanOut(row);
         }
-        let step = pair_step(
-            source,
-            ebits,
-            eside,
-            map,
-            target,
-            q,
-            b,
-            (s + 2 * l) as usize,
-            row,
-        );
+        let at = (s + 2 * l) as usize;
+        let step = pair_step(source, ebits, eside, map, target, q, b, at, row);
         let Walk::RanOut(next) = step else {
             break 'pairs step;
         };
@@ -276,18 +267,28 @@ fn select_corr(
     ent: &[u64],
     cls: &mut [u64],
     e: [u64; 5],
-    r: u64,
+    r: usize,
 ) -> bool
     requires { ⌜ (getD e 2 0 < rowCount Graph.Source (now source)) × PairsWithin (now source) (now eside) (getD e 3 0) (getD e 4 0) × ConstsWithin Graph.Source (now ebits) (now source) ⌝ }
     requires { ⌜ (length (now ent) ≡ rowCount Graph.Target (now target)) × (length (now cls) ≡ rowCount Graph.Target (now target)) ⌝ }
     ensures test { λ t. ⌜ t ≡ endGood (now (map .entry)) (now (reads .entry)) (now (target .entry)) (now (ent .entry)) (now (cls .entry)) (getD e 1 0) (getD e 2 0) (walk (now (source .entry)) (now (ebits .entry)) (now (eside .entry)) (now (map .entry)) (now (target .entry)) (getD e 2 0) (getD e 4 0) (getD e 3 0) r) ⌝ }
     ensures list { λ t. ⌜ now (cls .exit) ≡ cond t (endClasses (now (cls .entry)) (walk (now (source .entry)) (now (ebits .entry)) (now (eside .entry)) (now (map .entry)) (now (target .entry)) (getD e 2 0) (getD e 4 0) (getD e 3 0) r)) (now (cls .entry)) ⌝ }
 {
-    let w = chain_walk(source, ebits, eside, map, target, e[2], e[4], e[3], r);
+    let w = chain_walk(
+        source,
+        ebits,
+        eside,
+        map,
+        target,
+        e[2],
+        e[4],
+        e[3],
+        r as u64,
+    );
     walk_end(map, reads, target, ent, cls, e[1], e[2], w)
 }
 
-// Target row r is the result variable of function f, of width w, at the images of the k arguments from s on.
+// Target row r is the result variable of a Call's function, of its width, at the images of its arguments.
 fn call_ok(
     eside: &[u64],
     map: &[u64],
@@ -296,17 +297,14 @@ fn call_ok(
     target: &[u64],
     ent: &[u64],
     cls: &[u64],
-    f: u64,
-    w: u64,
-    s: u64,
-    k: u64,
+    e: [u64; 5],
     r: usize,
 ) -> bool
     requires { ⌜ (r < rowCount Graph.Target (now target)) × (length (now ent) ≡ rowCount Graph.Target (now target)) × (length (now cls) ≡ rowCount Graph.Target (now target)) ⌝ }
-    requires { ⌜ ArgsWithin (now eside) s k ⌝ }
-    ensures test { λ t. ⌜ t ≡ callMatches (now (eside .entry)) (now (map .entry)) (now (calls .entry)) (now (cargs .entry)) (now (target .entry)) (now (ent .entry)) (now (cls .entry)) f w s k r ⌝ }
+    requires { ⌜ ArgsWithin (now eside) (getD e 3 0) (getD e 4 0) ⌝ }
+    ensures test { λ t. ⌜ t ≡ callMatches (now (eside .entry)) (now (map .entry)) (now (calls .entry)) (now (cargs .entry)) (now (target .entry)) (now (ent .entry)) (now (cls .entry)) (getD e 1 0) (getD e 2 0) (getD e 3 0) (getD e 4 0) r ⌝ }
 {
-    if !images::row_is_var(rows::row(Graph::Target, target, r), w) {
+    if !images::row_is_var(rows::row(Graph::Target, target, r), e[2]) {
         return false;
     }
     if !call_class(cls[r]) {
@@ -317,7 +315,8 @@ fn call_ok(
         return false;
     }
     let at = o as usize;
-    if calls[at + 1] != f {
+    let k = e[4];
+    if calls[at + 1] != e[1] {
         return false;
     }
     if calls[at + 3] != k {
@@ -327,7 +326,7 @@ fn call_ok(
     if !within(cargs.len() as u64, cs, k) {
         return false;
     }
-    args_match(eside, map, cargs, s as usize, cs as usize, k as usize)
+    args_match(eside, map, cargs, e[3] as usize, cs as usize, k as usize)
 }
 
 // A Call row against its image: the variable becomes 5.
@@ -347,20 +346,7 @@ fn call_corr(
     ensures test { λ t. ⌜ t ≡ callMatches (now (eside .entry)) (now (map .entry)) (now (calls .entry)) (now (cargs .entry)) (now (target .entry)) (now (ent .entry)) (now (cls .entry)) (getD e 1 0) (getD e 2 0) (getD e 3 0) (getD e 4 0) r ⌝ }
     ensures list { λ t. ⌜ now (cls .exit) ≡ cond t (set (now (cls .entry)) r 5) (now (cls .entry)) ⌝ }
 {
-    if !call_ok(
-        eside,
-        map,
-        calls,
-        cargs,
-        target,
-        ent,
-        cls,
-        e[1],
-        e[2],
-        e[3],
-        e[4],
-        r,
-    ) {
+    if !call_ok(eside, map, calls, cargs, target, ent, cls, e, r) {
         return false;
     }
     cls[r] = 5;
@@ -441,18 +427,7 @@ fn row_corr(
             Answer::ConstMismatch(i as u64),
         ),
         37 => matched(
-            select_corr(
-                source,
-                ebits,
-                eside,
-                map,
-                reads,
-                target,
-                ent,
-                cls,
-                e,
-                r as u64,
-            ),
+            select_corr(source, ebits, eside, map, reads, target, ent, cls, e, r),
             Answer::ChainMismatch(i as u64),
         ),
         38 => matched(

@@ -6,18 +6,6 @@ use borrow.Author.Needs.{needs}
 use Rattle.matching.proofs.call_corr.Statement.{statement}
 use Rattle.matching.proofs.call_corr.Tie as tie
 
-array-read-call-ok : tie.Need-array-read-call-ok
-array-read-call-ok c = search needs
-
-array-read-call-ok-2 : tie.Need-array-read-call-ok-2
-array-read-call-ok-2 c = search needs
-
-array-read-call-ok-3 : tie.Need-array-read-call-ok-3
-array-read-call-ok-3 c = search needs
-
-array-read-call-ok-4 : tie.Need-array-read-call-ok-4
-array-read-call-ok-4 c = search needs
-
 call-ok-requires : tie.Need-call-ok-requires
 call-ok-requires c κs = search needs
 
@@ -42,15 +30,4 @@ returns-2 c = (sym (tested-yes _ _ (c .before .call-ok .ensures) (c .if1 .left))
 pub call-corr-spec : {M : Type 1} → statement M
 call-corr-spec =
     tie.close
-    (tie.spec
-    array-read-call-ok
-    array-read-call-ok-2
-    array-read-call-ok-3
-    array-read-call-ok-4
-    call-ok-requires
-    same-length
-    returns
-    mul-cls
-    slice-write-cls
-    same-length-2
-    returns-2)
+    (tie.spec call-ok-requires same-length returns mul-cls slice-write-cls same-length-2 returns-2)

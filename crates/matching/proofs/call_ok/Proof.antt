@@ -14,6 +14,9 @@ use Rattle.matching.proofs.call_ok.Tie as tie
 row-requires : tie.Need-row-requires
 row-requires c κs = search needs
 
+array-read-row-is-var : tie.Need-array-read-row-is-var
+array-read-row-is-var c = search needs
+
 row-is-var-requires : tie.Need-row-is-var-requires
 row-is-var-requires c κs = search needs
 
@@ -47,6 +50,9 @@ returns-3 : tie.Need-returns-3
 unfolding callMatches all
 returns-3 c = rw (tested-yes _ _ (rw (c .before .before .before .before .before .before .before .before .row .ensures) at (c .before .before .before .before .before .before .before .row-is-var .ensures)) (c .before .before .before .before .before .before .if1 .left), tested-yes _ _ (c .before .before .before .before .call-class .ensures) (c .before .before .before .if2 .left), tested-no _ _ (c .before .within .ensures) (c .if3 .taken))
 
+array-read-k : tie.Need-array-read-k
+array-read-k c = search needs
+
 add-if4 : tie.Need-add-if4
 add-if4 c =
     let s = c .before .before .before .before .before .before .before .before .before .before .before .before .before .before .before .before .args in
@@ -64,6 +70,9 @@ shared-slice-read-if4 c =
     let s = c .before .before .before .before .before .before .before .before .before .before .before .before .before .before .before .before .before .args in
     let h = within-le (length (s .calls .now)) (getD (s .ent .now) (s .r) 0) 4 _ (c .before .before .within .ensures) (c .before .if3 .left) in
     omega (arith, h)
+
+array-read-if4 : tie.Need-array-read-if4
+array-read-if4 c = search needs
 
 returns-4 : tie.Need-returns-4
 unfolding callMatches all
@@ -116,10 +125,13 @@ returns-6 : tie.Need-returns-6
 unfolding callMatches all
 returns-6 c = rw (tested-yes _ _ (rw (c .before .before .before .before .before .before .before .before .before .before .before .before .before .before .before .row .ensures) at (c .before .before .before .before .before .before .before .before .before .before .before .before .before .before .row-is-var .ensures)) (c .before .before .before .before .before .before .before .before .before .before .before .before .before .if1 .left), tested-yes _ _ (c .before .before .before .before .before .before .before .before .before .before .before .call-class .ensures) (c .before .before .before .before .before .before .before .before .before .before .if2 .left), tested-yes _ _ (c .before .before .before .before .before .before .before .before .within .ensures) (c .before .before .before .before .before .before .before .if3 .left), eq-eqb _ _ (c .before .before .before .before .before .if4 .left), eq-eqb _ _ (c .before .before .before .if5 .left), tested-no _ _ (c .before .within2 .ensures) (c .if6 .taken))
 
+array-read-args-match : tie.Need-array-read-args-match
+array-read-args-match c = search needs
+
 args-match-requires : tie.Need-args-match-requires
 args-match-requires c κs =
     let s = c .before .before .before .before .before .before .before .before .before .before .before .before .before .before .before .before .before .before .before .before .before .before .before .args in
-    (c .before .before .before .before .before .before .before .before .before .before .before .before .before .before .before .before .before .before .before .before .before .before .before .pre .1, within-le (length (s .cargs .now)) _ (s .k) _ (c .before .within2 .ensures) (c .if6 .left))
+    (c .before .before .before .before .before .before .before .before .before .before .before .before .before .before .before .before .before .before .before .before .before .before .before .pre .1, within-le (length (s .cargs .now)) _ (getD (s .t8) 4 0) _ (c .before .within2 .ensures) (c .if6 .left))
 
 returns-7 : tie.Need-returns-7
 unfolding callMatches all
@@ -130,6 +142,7 @@ call-ok-spec =
     tie.close
     (tie.spec
     row-requires
+    array-read-row-is-var
     row-is-var-requires
     returns
     mul-call-class
@@ -140,9 +153,11 @@ call-ok-spec =
     shared-slice-read-o
     within-requires
     returns-3
+    array-read-k
     add-if4
     mul-if4
     shared-slice-read-if4
+    array-read-if4
     returns-4
     add-if5
     mul-if5
@@ -153,5 +168,6 @@ call-ok-spec =
     shared-slice-read-cs
     within-requires-2
     returns-6
+    array-read-args-match
     args-match-requires
     returns-7)

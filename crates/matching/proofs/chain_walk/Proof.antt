@@ -31,11 +31,11 @@ map-at-requires c κs = search needs
 pairs-holds : tie.Need-pairs-holds Inv-pairs μ-pairs
 pairs-holds c = (omega arith, rw (add-zero, sub-zero))
 
-mul-pair-step : tie.Need-mul-pair-step Inv-pairs μ-pairs
-mul-pair-step c = let h = c .before .before .before .before .before .before .before .before .before .before .pre .1 .0 _ (c .if2 .left) in omega (arith, h .0)
+mul-at : tie.Need-mul-at Inv-pairs μ-pairs
+mul-at c = let h = c .before .before .before .before .before .before .before .before .before .before .pre .1 .0 _ (c .if2 .left) in omega (arith, h .0)
 
-add-pair-step : tie.Need-add-pair-step Inv-pairs μ-pairs
-add-pair-step c = let h = c .before .before .before .before .before .before .before .before .before .before .pre .1 .0 _ (c .if2 .left) in omega (arith, h .0)
+add-at : tie.Need-add-at Inv-pairs μ-pairs
+add-at c = let h = c .before .before .before .before .before .before .before .before .before .before .pre .1 .0 _ (c .if2 .left) in omega (arith, h .0)
 
 pair-step-requires : tie.Need-pair-step-requires Inv-pairs μ-pairs
 pair-step-requires c κs =
@@ -81,8 +81,8 @@ chain-walk-spec =
     row-requires
     map-at-requires
     pairs-holds
-    mul-pair-step
-    add-pair-step
+    mul-at
+    add-at
     pair-step-requires
     enum-known-step
     add-l
