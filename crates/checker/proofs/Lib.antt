@@ -1,3 +1,5 @@
 pub mod Counts
 pub mod Form
 pub mod RootLaws
+pub mod TableLaws
+pub mod MatchLaws

@@ -3,13 +3,15 @@ ghost use mathlib.Core.Path.{_≡_};
 ghost use mathlib.Core.Bool.{true, false};
 ghost use mathlib.Core.List.{[], _++_};
 ghost use Prim.Native.Nat.{ℕ, _<_, _≤_};
-ghost use lib.ListN.{length, drop};
+ghost use lib.ListN.{length, drop, replicate};
 ghost use Rattle.answers.specs.Answer.{isAccepted};
 ghost use Rattle.rows.specs.declared.Graph.{Graph};
 ghost use Rattle.rows.specs.Row.{rowCount};
 ghost use Rattle.rows.specs.Encoding.{rowBad};
 ghost use Rattle.wf.specs.Widths.{widths};
-ghost use Rattle.lowering.specs.Check.{firstRefusal, countAnswers, graphAnswers, graphsAnswer, rootAnswers};
+ghost use Rattle.lowering.specs.Check.{lowering, classes, offsets, firstRefusal, countAnswers, graphAnswers, graphsAnswer, tableAnswers, rootAnswers, matchAnswers};
+ghost use Rattle.matching.specs.Ready.{Formed};
+ghost use Rattle.lowering.specs.Tables.{readCount, callCount, readClasses, callClasses, readOffsets, callOffsets};
 ghost use Rattle.congruence.specs.Walk.{ReadsIn, CallsIn};
 ghost use Rattle.images.specs.Bits.{ConstsWithin};
 use answers::Answer;
@@ -140,4 +142,87 @@ fn roots(
         return Answer::RootMismatch(0);
     }
     Answer::Accepted
+}
+
+// 5 and 6; where both tables pass, each entry has marked its variable's class and offset.
+fn entries(
+    reads: &[u64],
+    calls: &[u64],
+    cargs: &[u64],
+    target: &[u64],
+    ws: &[u64],
+    cls: &mut [u64],
+    ent: &mut [u64],
+) -> Answer
+    requires { ⌜ length (now cls) ≡ rowCount Graph.Target (now target) ⌝ }
+    requires { ⌜ length (now ent) ≡ rowCount Graph.Target (now target) ⌝ }
+    ensures answer { λ r. ⌜ r ≡ firstRefusal (tableAnswers (now (reads .entry)) (now (calls .entry)) (now (cargs .entry)) (now (target .entry)) (now (ws .entry)) (now (cls .entry))) ⌝ }
+    ensures classes { λ r. ⌜ (isAccepted r ≡ true → now (cls .exit) ≡ callClasses (now (calls .entry)) (readClasses (now (reads .entry)) (now (cls .entry)) (readCount (now (reads .entry)))) (callCount (now (calls .entry)))) ⌝ }
+    ensures offsets { λ r. ⌜ (isAccepted r ≡ true → now (ent .exit) ≡ callOffsets (now (calls .entry)) (readOffsets (now (reads .entry)) (now (ent .entry)) (readCount (now (reads .entry)))) (callCount (now (calls .entry)))) ⌝ }
+{
+    let r = tables::read_entries(reads, target, ws, cls, ent);
+    if r < tables::read_count(reads) as u64 {
+        return Answer::ReadTable(r);
+    }
+    let c = tables::call_entries(calls, cargs, target, cls, ent);
+    if c < tables::call_count(calls) as u64 {
+        return Answer::CallTable(c);
+    }
+    Answer::Accepted
+}
+
+// 3 to 14: whether the target, well formed and with its widths, is the lowering of the source. The two lists hold zeros before.
+fn matches(
+    source: &[u64],
+    ebits: &[u8],
+    eside: &[u64],
+    eroots: &[u64],
+    map: &[u64],
+    reads: &[u64],
+    calls: &[u64],
+    cargs: &[u64],
+    target: &[u64],
+    tbits: &[u8],
+    troots: &[u64],
+    ws: &[u64],
+    cls: &mut [u64],
+    ent: &mut [u64],
+) -> Answer
+    requires { ⌜ Formed (now source) (now ebits) (now eside) (now target) (now tbits) ⌝ }
+    requires { ⌜ now ws ≡ widths Graph.Target (length (now tbits)) [] (now target) ⌝ }
+    requires { ⌜ now cls ≡ replicate (rowCount Graph.Target (now target)) 0 ⌝ }
+    requires { ⌜ now ent ≡ replicate (rowCount Graph.Target (now target)) 0 ⌝ }
+    ensures answer { λ r. ⌜ r ≡ firstRefusal (matchAnswers (lowering (now (source .entry)) (now (ebits .entry)) (now (eside .entry)) (now (eroots .entry)) (now (map .entry)) (now (reads .entry)) (now (calls .entry)) (now (cargs .entry)) (now (target .entry)) (now (tbits .entry)) (now (troots .entry)))) ⌝ }
+    ensures class_list { λ r. ⌜ (isAccepted r ≡ true → now (cls .exit) ≡ classes (lowering (now (source .entry)) (now (ebits .entry)) (now (eside .entry)) (now (eroots .entry)) (now (map .entry)) (now (reads .entry)) (now (calls .entry)) (now (cargs .entry)) (now (target .entry)) (now (tbits .entry)) (now (troots .entry))) (rowCount Graph.Source (now (source .entry)))) ⌝ }
+    ensures entry_list { λ r. ⌜ (isAccepted r ≡ true → now (ent .exit) ≡ offsets (lowering (now (source .entry)) (now (ebits .entry)) (now (eside .entry)) (now (eroots .entry)) (now (map .entry)) (now (reads .entry)) (now (calls .entry)) (now (cargs .entry)) (now (target .entry)) (now (tbits .entry)) (now (troots .entry)))) ⌝ }
+{
+    let n = rows::row_count(Graph::Source, source);
+    if map.len() != n {
+        return Answer::MapLength(n as u64, map.len() as u64);
+    }
+    let t = entries(reads, calls, cargs, target, ws, cls, ent);
+    if !answers::is_accepted(t) {
+        return t;
+    }
+    let r = matching::ext_rows(
+        source,
+        ebits,
+        eside,
+        map,
+        reads,
+        calls,
+        cargs,
+        target,
+        tbits,
+        ent,
+        cls,
+    );
+    if !answers::is_accepted(r) {
+        return r;
+    }
+    let dead = matching::dead_entry(cls);
+    if dead < cls.len() as u64 {
+        return Answer::DeadEntry(dead);
+    }
+    roots(eroots, map, reads, calls, cargs, target, tbits, troots)
 }

@@ -42,7 +42,7 @@ pub all-pass : (p : ℕ → Bool) (n : ℕ) → ltb (first (λ k. not (p k)) n) 
 all-pass p n e k h = not-false (p k) (all-fail (λ j. not (p j)) n e k h)
 
 -- the first answer that is no acceptance is a refusal
-first-refused : (f : ℕ → Answer) (n : ℕ) (b : Bool) → ltb (first (λ k. not (isAccepted (f k))) n) n ≡ b
+pub first-refused : (f : ℕ → Answer) (n : ℕ) (b : Bool) → ltb (first (λ k. not (isAccepted (f k))) n) n ≡ b
     → isAccepted (refuse b (f (first (λ k. not (isAccepted (f k))) n))) ≡ true → b ≡ false
 first-refused f n true e a =
     not-refused true (f (first (λ k. not (isAccepted (f k))) n)) (not-true _ (first-hit (λ k. not (isAccepted (f k))) n (ltb-true _ _ e))) a

@@ -1,0 +1,39 @@
+-- The answer to the tables, refusal by refusal. Assumes nothing.
+use Prim.Native.Nat.{ℕ, _<_, _≤_}
+use mathlib.Core.Path.{_≡_}
+use mathlib.Core.Bool.{not}
+use mathlib.Core.List.{List}
+use native.Mathlib.Nat.{le-antisymm}
+use borrow.Author.Tests.{lt-ltb, le-ltb}
+use Rattle.answers.specs.declared.Answer.{Answer}
+use Rattle.answers.specs.declared.Answer.the-variants.{Accepted, ReadTable, CallTable}
+use Rattle.lists.proofs.First.{first-le}
+use Rattle.lowering.specs.Tables.{readCount, callCount, readGood, callGood, readClasses, callClasses, badRead, badCall}
+use Rattle.lowering.specs.Check.{firstRefusal, tableAnswers}
+
+-- a table without a bad entry
+pub all-reads : (reads t ws cls : List ℕ) → readCount reads ≤ badRead reads t ws cls → badRead reads t ws cls ≡ readCount reads
+all-reads reads t ws cls h = le-antisymm (first-le (λ k. not (readGood reads t ws (readClasses reads cls k) k)) (readCount reads)) h
+
+pub all-calls : (calls cargs t cls : List ℕ) → callCount calls ≤ badCall calls cargs t cls → badCall calls cargs t cls ≡ callCount calls
+all-calls calls cargs t cls h = le-antisymm (first-le (λ k. not (callGood calls cargs t (callClasses calls cls k) k)) (callCount calls)) h
+
+module _ (reads calls cargs t ws cls : List ℕ) where
+  abbrev answer : Answer
+  answer = firstRefusal (tableAnswers reads calls cargs t ws cls)
+
+  abbrev after : List ℕ
+  after = readClasses reads cls (readCount reads)
+
+  pub read-5 : badRead reads t ws cls < readCount reads → answer ≡ ReadTable (badRead reads t ws cls)
+  unfolding firstRefusal
+  read-5 h = rw (lt-ltb _ _ h)
+
+  module _ (a : readCount reads ≤ badRead reads t ws cls) where
+    pub call-6 : badCall calls cargs t after < callCount calls → answer ≡ CallTable (badCall calls cargs t after)
+    unfolding firstRefusal
+    call-6 h = rw (le-ltb _ _ a, lt-ltb _ _ h)
+
+    pub tables-good : callCount calls ≤ badCall calls cargs t after → answer ≡ Accepted
+    unfolding firstRefusal
+    tables-good b = rw (le-ltb _ _ a, le-ltb _ _ b)
