@@ -1,6 +1,6 @@
 -- Answers as numbers, and what each leaves in a lent list (01, 'Operations and what they refuse'). Assumes nothing.
 use Prim.Native.Nat.{ℕ, _-_}
-use mathlib.Core.Bool.{Bool, cond}
+use mathlib.Core.Bool.{Bool, true, cond}
 use mathlib.Core.List.{List, _++_}
 use lib.Dec.{eqb}
 use lib.ListN.{length, replicate}
@@ -44,29 +44,11 @@ isAccepted a = eqb (wordsOf a .number) 0
 abbrev pub andThen : Answer → Answer → Answer
 andThen a next = cond (isAccepted a) next a
 
--- "15 and 18 write nothing; any other refusal zeroes all .. lists. Acceptance leaves [the list's contents], zeros after the last row":
+-- "15 and 18 write nothing"
+abbrev pub keeps : Answer → Bool
+keeps a = cond (eqb (wordsOf a .number) 15) true (eqb (wordsOf a .number) 18)
+
+-- "any other refusal zeroes all .. lists. Acceptance leaves [the list's contents], zeros after the last row":
 -- what a lent list holds afterwards, by the answer, what it held and what acceptance writes
 abbrev pub lent : Answer → List ℕ → List ℕ → List ℕ
-lent Accepted old new = new ++ replicate (length old - length new) 0
-lent (Ext row) old new = replicate (length old) 0
-lent (Core row) old new = replicate (length old) 0
-lent (MapLength expected found) old new = replicate (length old) 0
-lent (MapOutOfRange row) old new = replicate (length old) 0
-lent (ReadTable entry) old new = replicate (length old) 0
-lent (CallTable entry) old new = replicate (length old) 0
-lent (VarClass row) old new = replicate (length old) 0
-lent (ConstMismatch row) old new = replicate (length old) 0
-lent (NodeMismatch row) old new = replicate (length old) 0
-lent (ChainMismatch row) old new = replicate (length old) 0
-lent (CallMismatch row) old new = replicate (length old) 0
-lent (RootMismatch position) old new = replicate (length old) 0
-lent (CongruenceMismatch position) old new = replicate (length old) 0
-lent (DeadEntry variable) old new = replicate (length old) 0
-lent (RowCount graph) old new = old
-lent (BadRow row graph) old new = replicate (length old) 0
-lent (BadBit position graph) old new = replicate (length old) 0
-lent (WorkShort list) old new = old
-lent (BadRoot position) old new = replicate (length old) 0
-lent (TooWide row) old new = replicate (length old) 0
-lent (ValueCount expected found) old new = replicate (length old) 0
-lent (ValueRange row) old new = replicate (length old) 0
+lent a old new = cond (isAccepted a) (new ++ replicate (length old - length new) 0) (cond (keeps a) old (replicate (length old) 0))

@@ -68,7 +68,7 @@ module _ (g bits given ws vs : List ℕ) where
             ≡ out (rowsAnswer Target g bits (illRow Target (length bits) [] g)) (replicate (length ws) 0) (replicate (length vs) 0)
         values-rows e =
             settled (rowsAnswer Target g bits (illRow Target (length bits) [] g)) (rw (whole, le-ltb _ _ room, le-ltb _ _ room-too, e))
-            ∙ ap₂ (out (rowsAnswer Target g bits (illRow Target (length bits) [] g))) (zero ws _) (zero vs _)
+            ∙ ap₂ (out (rowsAnswer Target g bits (illRow Target (length bits) [] g))) (zero ws (widths Target (length bits) [] g)) (zero vs (numbersOf g bits given (rowCount Target g)))
           where
             zero : (old new : List ℕ) → lent (rowsAnswer Target g bits (illRow Target (length bits) [] g)) old new ≡ replicate (length old) 0
             zero old new =
@@ -84,7 +84,7 @@ module _ (g bits given ws vs : List ℕ) where
               ≡ out (givenAnswer g (widths Target (length bits) [] g) given) (replicate (length ws) 0) (replicate (length vs) 0)
           values-given e =
               settled (givenAnswer g (widths Target (length bits) [] g) given) answer-is
-              ∙ ap₂ (out (givenAnswer g (widths Target (length bits) [] g) given)) (zero ws _) (zero vs _)
+              ∙ ap₂ (out (givenAnswer g (widths Target (length bits) [] g) given)) (zero ws (widths Target (length bits) [] g)) (zero vs (numbersOf g bits given (rowCount Target g)))
             where
               zero : (old new : List ℕ) → lent (givenAnswer g (widths Target (length bits) [] g) given) old new ≡ replicate (length old) 0
               zero old new = given-zero (ltb (wideRow (widths Target (length bits) [] g) (rowCount Target g)) (rowCount Target g)) (eqb (length given) (rowCount Target g)) (ltb (badWord g given) (rowCount Target g)) (wideRow (widths Target (length bits) [] g) (rowCount Target g)) (badWord g given) (rowCount Target g) (length given) old new e

@@ -41,7 +41,7 @@ module _ (g bits ws : List ℕ) (a : Answer) (l : List ℕ) (done : out a l ≡ 
   widths-refused e =
       widths-list
       ∙ rows-zero (ltb (badRow Target g) (rowCount Target g)) (ltb (badBit bits) (length bits)) (ltb (illRow Target (length bits) [] g) (rowCount Target g))
-      (badRow Target g) (badBit bits) 2 (illRow Target (length bits) [] g) ws _ e
+      (badRow Target g) (badBit bits) 2 (illRow Target (length bits) [] g) ws (widths Target (length bits) [] g) e
 
   pub widths-accepted : isAccepted (rowsAnswer Target g bits (illRow Target (length bits) [] g)) ≡ true
       → l ≡ widths Target (length bits) [] g ++ replicate (length ws - rowCount Target g) 0

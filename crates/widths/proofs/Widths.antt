@@ -56,7 +56,7 @@ module _ (graph : Graph) (g bits side ws : List ℕ) where
           → graphWidths graph g bits side ws ≡ out (rowsAnswer graph g bits (stopRow graph (length bits) side g)) (replicate (length ws) 0)
       widths-stop h =
           rw (whole, le-ltb _ _ room, stop-answer h)
-          (ap (out (rowsAnswer graph g bits (stopRow graph (length bits) side g))) (lent-rows graph g bits _ h ws _))
+          (ap (out (rowsAnswer graph g bits (stopRow graph (length bits) side g))) (lent-rows graph g bits (stopRow graph (length bits) side g) h ws (widths graph (length bits) side g)))
 
       module _ (all : rowCount graph g ≤ stopRow graph (length bits) side g) where
         pub widths-17 : badBit bits < length bits
