@@ -3,3 +3,4 @@ pub mod Form
 pub mod RootLaws
 pub mod TableLaws
 pub mod MatchLaws
+pub mod Zeros

@@ -1,8 +1,8 @@
-// The operation Check.
+// The parts of the operation Check: each answers its refusals and leaves its lists as the definition says.
 ghost use mathlib.Core.Path.{_≡_};
 ghost use mathlib.Core.Bool.{true, false};
 ghost use mathlib.Core.List.{[], _++_};
-ghost use Prim.Native.Nat.{ℕ, _<_, _≤_};
+ghost use Prim.Native.Nat.{ℕ, _-_, _<_, _≤_};
 ghost use lib.ListN.{length, drop, replicate};
 ghost use Rattle.answers.specs.Answer.{isAccepted};
 ghost use Rattle.rows.specs.declared.Graph.{Graph};
@@ -18,7 +18,14 @@ use answers::Answer;
 use rows::Graph;
 
 // 15 and 18, with room for some words in each of the four lists.
-fn count_answer(source: &[u64], target: &[u64], w0: usize, w1: usize, c: usize, e: usize) -> Answer
+pub fn count_answer(
+    source: &[u64],
+    target: &[u64],
+    w0: usize,
+    w1: usize,
+    c: usize,
+    e: usize,
+) -> Answer
     ensures answer { λ r. ⌜ r ≡ firstRefusal (countAnswers (now (source .entry)) (now (target .entry)) w0 w1 c e) ⌝ }
 {
     if rows::is_ragged(Graph::Source, source) {
@@ -84,7 +91,7 @@ fn graph_answer(
 }
 
 // The widths of both graphs, or the first refusal by 01's order.
-fn graphs(
+pub fn graphs(
     source: &[u64],
     ebits: &[u8],
     eside: &[u64],
@@ -225,4 +232,50 @@ fn matches(
         return Answer::DeadEntry(dead);
     }
     roots(eroots, map, reads, calls, cargs, target, tbits, troots)
+}
+
+// The same in lists with room to spare, whatever they hold before; zeros after the last row.
+pub fn lowered(
+    source: &[u64],
+    ebits: &[u8],
+    eside: &[u64],
+    eroots: &[u64],
+    map: &[u64],
+    reads: &[u64],
+    calls: &[u64],
+    cargs: &[u64],
+    target: &[u64],
+    tbits: &[u8],
+    troots: &[u64],
+    ws: &[u64],
+    cls: &mut [u64],
+    ent: &mut [u64],
+) -> Answer
+    requires { ⌜ Formed (now source) (now ebits) (now eside) (now target) (now tbits) ⌝ }
+    requires { ⌜ now ws ≡ widths Graph.Target (length (now tbits)) [] (now target) ⌝ }
+    requires { ⌜ rowCount Graph.Target (now target) ≤ length (now cls) ⌝ }
+    requires { ⌜ rowCount Graph.Target (now target) ≤ length (now ent) ⌝ }
+    ensures answer { λ r. ⌜ r ≡ firstRefusal (matchAnswers (lowering (now (source .entry)) (now (ebits .entry)) (now (eside .entry)) (now (eroots .entry)) (now (map .entry)) (now (reads .entry)) (now (calls .entry)) (now (cargs .entry)) (now (target .entry)) (now (tbits .entry)) (now (troots .entry)))) ⌝ }
+    ensures class_list { λ r. ⌜ (isAccepted r ≡ true → now (cls .exit) ≡ classes (lowering (now (source .entry)) (now (ebits .entry)) (now (eside .entry)) (now (eroots .entry)) (now (map .entry)) (now (reads .entry)) (now (calls .entry)) (now (cargs .entry)) (now (target .entry)) (now (tbits .entry)) (now (troots .entry))) (rowCount Graph.Source (now (source .entry))) ++ replicate (length (now (cls .entry)) - rowCount Graph.Target (now (target .entry))) 0) ⌝ }
+    ensures entry_list { λ r. ⌜ (isAccepted r ≡ true → now (ent .exit) ≡ offsets (lowering (now (source .entry)) (now (ebits .entry)) (now (eside .entry)) (now (eroots .entry)) (now (map .entry)) (now (reads .entry)) (now (calls .entry)) (now (cargs .entry)) (now (target .entry)) (now (tbits .entry)) (now (troots .entry))) ++ replicate (length (now (ent .entry)) - rowCount Graph.Target (now (target .entry))) 0) ⌝ }
+{
+    lists::clear(cls);
+    lists::clear(ent);
+    let n = rows::row_count(Graph::Target, target);
+    matches(
+        source,
+        ebits,
+        eside,
+        eroots,
+        map,
+        reads,
+        calls,
+        cargs,
+        target,
+        tbits,
+        troots,
+        ws,
+        &mut cls[..n],
+        &mut ent[..n],
+    )
 }

@@ -15,7 +15,7 @@ use Rattle.lowering.specs.Images.{MAX, rowIs, bothConst, sameConst, uneq
 use Rattle.lowering.specs.Tables.{sameRead, sameFunction, sameCall, readGood, callGood}
 use Rattle.lowering.specs.Matching.{isEq, isLevel, walk, endGood, callMatches, varMatches, nodeMatches, rowAnswer, rowClasses}
 use Rattle.lowering.specs.Roots.{leads, pairsWith, pairs, readsNeed, allEqual, congruent, rootAt}
-use Rattle.lowering.specs.Check.{Lowering, lowering, Outcome, firstRefusal, check, checkAnswer}
+use Rattle.lowering.specs.Check.{Lowering, lowering, Outcome, outcome, firstRefusal, check, checkAnswer}
 
 -- rows, one after the other
 abbrev s5 : ℕ → ℕ → ℕ → ℕ → ℕ → List ℕ → List ℕ
@@ -39,17 +39,17 @@ base eroots map reads troots =
 abbrev nines : List ℕ
 nines = 9 ∷ 9 ∷ 9 ∷ 9 ∷ []
 
-abbrev outcome : Lowering → List ℕ → Outcome
-outcome L entries = check L nines nines nines entries
+abbrev lent-nines : Lowering → List ℕ → Outcome
+lent-nines L entries = check L nines nines nines entries
 
 -- 1. "Base: accepted, classes 1,4,0", with all four lists; then a refusal that zeroes them and one that writes nothing
-cases-1 : outcome (base (2 ∷ []) (0 ∷ 1 ∷ 2 ∷ []) (1 ∷ 7 ∷ 0 ∷ []) (2 ∷ [])) nines
-    ∷ outcome (base (2 ∷ []) (0 ∷ 1 ∷ 2 ∷ []) [] (2 ∷ [])) nines
-    ∷ outcome (base (2 ∷ []) (0 ∷ 1 ∷ 2 ∷ []) (1 ∷ 7 ∷ 0 ∷ []) (2 ∷ [])) (9 ∷ 9 ∷ [])
+cases-1 : lent-nines (base (2 ∷ []) (0 ∷ 1 ∷ 2 ∷ []) (1 ∷ 7 ∷ 0 ∷ []) (2 ∷ [])) nines
+    ∷ lent-nines (base (2 ∷ []) (0 ∷ 1 ∷ 2 ∷ []) [] (2 ∷ [])) nines
+    ∷ lent-nines (base (2 ∷ []) (0 ∷ 1 ∷ 2 ∷ []) (1 ∷ 7 ∷ 0 ∷ []) (2 ∷ [])) (9 ∷ 9 ∷ [])
     ∷ []
-    ≡ record { answer = Accepted; source-widths = 32 ∷ 8 ∷ 1 ∷ 0 ∷ []; target-widths = 32 ∷ 8 ∷ 1 ∷ 0 ∷ []; class-list = 1 ∷ 4 ∷ 0 ∷ 0 ∷ []; entry-list = 0 ∷ 0 ∷ 0 ∷ 0 ∷ [] }
-    ∷ record { answer = ChainMismatch 1; source-widths = 0 ∷ 0 ∷ 0 ∷ 0 ∷ []; target-widths = 0 ∷ 0 ∷ 0 ∷ 0 ∷ []; class-list = 0 ∷ 0 ∷ 0 ∷ 0 ∷ []; entry-list = 0 ∷ 0 ∷ 0 ∷ 0 ∷ [] }
-    ∷ record { answer = WorkShort 4; source-widths = nines; target-widths = nines; class-list = nines; entry-list = 9 ∷ 9 ∷ [] }
+    ≡ outcome Accepted (32 ∷ 8 ∷ 1 ∷ 0 ∷ []) (32 ∷ 8 ∷ 1 ∷ 0 ∷ []) (1 ∷ 4 ∷ 0 ∷ 0 ∷ []) (0 ∷ 0 ∷ 0 ∷ 0 ∷ [])
+    ∷ outcome (ChainMismatch 1) (0 ∷ 0 ∷ 0 ∷ 0 ∷ []) (0 ∷ 0 ∷ 0 ∷ 0 ∷ []) (0 ∷ 0 ∷ 0 ∷ 0 ∷ []) (0 ∷ 0 ∷ 0 ∷ 0 ∷ [])
+    ∷ outcome (WorkShort 4) nines nines nines (9 ∷ 9 ∷ [])
     ∷ []
 unfolding firstRefusal build first all agree trace rowIs bothConst sameConst unequalConst sameRead sameFunction sameCall readGood callGood isEq isLevel walk endGood callMatches varMatches nodeMatches rowAnswer rowClasses leads pairsWith pairs readsNeed allEqual congruent rootAt
 cases-1 = refl

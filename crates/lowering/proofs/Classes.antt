@@ -166,7 +166,7 @@ module _ (L : Lowering) where
       go true = refl
       go false = node-length cls (m L i) (S L i)
 
-  classes-keep-length : (n : ℕ) → length (classes L n) ≡ length (classesOfTables L)
+  pub classes-keep-length : (n : ℕ) → length (classes L n) ≡ length (classesOfTables L)
   unfolding trace
   classes-keep-length zero = refl
   classes-keep-length (suc n) = row-length n (classes L n) ∙ classes-keep-length n

@@ -178,17 +178,14 @@ pub record Outcome : Type 0 where
   pub class-list : List ℕ
   pub entry-list : List ℕ
 
+abbrev pub outcome : Answer → List ℕ → List ℕ → List ℕ → List ℕ → Outcome
+outcome a ws0 ws1 cls ent = record { answer = a; source-widths = ws0; target-widths = ws1; class-list = cls; entry-list = ent }
+
 -- "15 and 18 write nothing; any other refusal zeroes all four lists. Acceptance leaves widths, classes and entry offsets .., zeros after the last row"
 abbrev pub check : Lowering → List ℕ → List ℕ → List ℕ → List ℕ → Outcome
 check L ws0 ws1 cls ent =
     let a = checkAnswer L (length ws0) (length ws1) (length cls) (length ent) in
-    record {
-      answer = a;
-      source-widths = lent a ws0 (sourceWidths L);
-      target-widths = lent a ws1 (targetWidths L);
-      class-list = lent a cls (classes L (sourceRows L));
-      entry-list = lent a ent (offsets L);
-    }
+    outcome a (lent a ws0 (sourceWidths L)) (lent a ws1 (targetWidths L)) (lent a cls (classes L (sourceRows L))) (lent a ent (offsets L))
 
 -- "The checker accepts when Check's number is 0"
 abbrev pub Accepts : Lowering → List ℕ → List ℕ → List ℕ → List ℕ → Type 0
