@@ -4,3 +4,6 @@ pub mod RootLaws
 pub mod TableLaws
 pub mod MatchLaws
 pub mod Zeros
+pub mod Keeps
+pub mod Outcome
+pub mod Sound

@@ -1,4 +1,4 @@
-// The parts of the operation Check: each answers its refusals and leaves its lists as the definition says.
+// The operation Check.
 ghost use mathlib.Core.Path.{_≡_};
 ghost use mathlib.Core.Bool.{true, false};
 ghost use mathlib.Core.List.{[], _++_};
@@ -9,7 +9,7 @@ ghost use Rattle.rows.specs.declared.Graph.{Graph};
 ghost use Rattle.rows.specs.Row.{rowCount};
 ghost use Rattle.rows.specs.Encoding.{rowBad};
 ghost use Rattle.wf.specs.Widths.{widths};
-ghost use Rattle.lowering.specs.Check.{lowering, classes, offsets, firstRefusal, countAnswers, graphAnswers, graphsAnswer, tableAnswers, rootAnswers, matchAnswers};
+ghost use Rattle.lowering.specs.Check.{lowering, classes, offsets, outcome, check, firstRefusal, countAnswers, graphAnswers, graphsAnswer, tableAnswers, rootAnswers, matchAnswers};
 ghost use Rattle.matching.specs.Ready.{Formed};
 ghost use Rattle.lowering.specs.Tables.{readCount, callCount, readClasses, callClasses, readOffsets, callOffsets};
 ghost use Rattle.congruence.specs.Walk.{ReadsIn, CallsIn};
@@ -18,14 +18,7 @@ use answers::Answer;
 use rows::Graph;
 
 // 15 and 18, with room for some words in each of the four lists.
-pub fn count_answer(
-    source: &[u64],
-    target: &[u64],
-    w0: usize,
-    w1: usize,
-    c: usize,
-    e: usize,
-) -> Answer
+fn count_answer(source: &[u64], target: &[u64], w0: usize, w1: usize, c: usize, e: usize) -> Answer
     ensures answer { λ r. ⌜ r ≡ firstRefusal (countAnswers (now (source .entry)) (now (target .entry)) w0 w1 c e) ⌝ }
 {
     if rows::is_ragged(Graph::Source, source) {
@@ -91,7 +84,7 @@ fn graph_answer(
 }
 
 // The widths of both graphs, or the first refusal by 01's order.
-pub fn graphs(
+fn graphs(
     source: &[u64],
     ebits: &[u8],
     eside: &[u64],
@@ -235,7 +228,7 @@ fn matches(
 }
 
 // The same in lists with room to spare, whatever they hold before; zeros after the last row.
-pub fn lowered(
+fn lowered(
     source: &[u64],
     ebits: &[u8],
     eside: &[u64],
@@ -278,4 +271,73 @@ pub fn lowered(
         &mut cls[..n],
         &mut ent[..n],
     )
+}
+
+// Zeros in all four lists.
+fn clear_all(ws0: &mut [u64], ws1: &mut [u64], cls: &mut [u64], ent: &mut [u64])
+    ensures zeros { λ _. ⌜ now (ws0 .exit) ≡ replicate (length (now (ws0 .entry))) 0 ⌝ }
+    ensures zeros_1 { λ _. ⌜ now (ws1 .exit) ≡ replicate (length (now (ws1 .entry))) 0 ⌝ }
+    ensures zeros_2 { λ _. ⌜ now (cls .exit) ≡ replicate (length (now (cls .entry))) 0 ⌝ }
+    ensures zeros_3 { λ _. ⌜ now (ent .exit) ≡ replicate (length (now (ent .entry))) 0 ⌝ }
+{
+    lists::clear(ws0);
+    lists::clear(ws1);
+    lists::clear(cls);
+    lists::clear(ent);
+}
+
+// Whether the target is the lowering of the source, or the first refusal by 01's order; in the four lists the widths of both graphs, the classes and
+// the entry offsets.
+pub fn check(
+    source: &[u64],
+    ebits: &[u8],
+    eside: &[u64],
+    eroots: &[u64],
+    map: &[u64],
+    reads: &[u64],
+    calls: &[u64],
+    cargs: &[u64],
+    target: &[u64],
+    tbits: &[u8],
+    troots: &[u64],
+    ws0: &mut [u64],
+    ws1: &mut [u64],
+    cls: &mut [u64],
+    ent: &mut [u64],
+) -> Answer
+    ensures outcome { λ r. ⌜ outcome r (now (ws0 .exit)) (now (ws1 .exit)) (now (cls .exit)) (now (ent .exit)) ≡ check (lowering (now (source .entry)) (now (ebits .entry)) (now (eside .entry)) (now (eroots .entry)) (now (map .entry)) (now (reads .entry)) (now (calls .entry)) (now (cargs .entry)) (now (target .entry)) (now (tbits .entry)) (now (troots .entry))) (now (ws0 .entry)) (now (ws1 .entry)) (now (cls .entry)) (now (ent .entry)) ⌝ }
+{
+    let a = count_answer(source, target, ws0.len(), ws1.len(), cls.len(), ent.len());
+    if !answers::is_accepted(a) {
+        return a;
+    }
+    let g = graphs(source, ebits, eside, target, tbits, ws0, ws1);
+    if !answers::is_accepted(g) {
+        clear_all(ws0, ws1, cls, ent);
+        return g;
+    }
+    let n = rows::row_count(Graph::Target, target);
+    let m = lowered(
+        source,
+        ebits,
+        eside,
+        eroots,
+        map,
+        reads,
+        calls,
+        cargs,
+        target,
+        tbits,
+        troots,
+        &ws1[..n],
+        cls,
+        ent,
+    );
+    if !answers::is_accepted(m) {
+        clear_all(ws0, ws1, cls, ent);
+        return m;
+    }
+    lists::clear_from(ws0, rows::row_count(Graph::Source, source));
+    lists::clear_from(ws1, n);
+    m
 }

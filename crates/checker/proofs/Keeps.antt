@@ -1,0 +1,140 @@
+-- Which refusals write nothing: 15 and 18, and no other. Assumes nothing.
+use Prim.Native.Nat.{ℕ, _+_}
+use mathlib.Core.Path.{_≡_, refl}
+use mathlib.Core.Bool.{Bool, true, false, cond, not}
+use mathlib.Core.List.{List, [], _∷_}
+use lib.Dec.{eqb, ltb}
+use lib.ListN.{length}
+use Rattle.answers.specs.declared.Answer.{Answer}
+use Rattle.answers.specs.declared.Answer.the-variants.{Accepted, RowCount, WorkShort, BadRow, BadBit, Ext, Core, MapLength, ReadTable, CallTable, DeadEntry, RootMismatch, CongruenceMismatch, MapOutOfRange, VarClass, ConstMismatch, NodeMismatch, ChainMismatch, CallMismatch}
+use Rattle.answers.specs.Answer.{isAccepted, keeps}
+use Rattle.lists.proofs.Choice.{no-way}
+use Rattle.rows.specs.declared.Graph.the-variants.{Source, Target}
+use Rattle.rows.specs.declared.Node.{Node}
+use Rattle.rows.specs.declared.Node.the-variants.{Var, Const, Un, Bin, Extract, Extend, Ite, Select, Call, Unknown}
+use Rattle.rows.specs.Row.{rowCount, rowAt, ragged}
+use Rattle.rows.specs.Node.{nodeOf}
+use Rattle.rows.specs.Encoding.{badRow, badBit}
+use Rattle.lowering.specs.Images.{MAX, mapAt, sameConst}
+use Rattle.lowering.specs.Tables.{readCount, callCount, badRead, badCall}
+use Rattle.lowering.specs.Roots.{Pair, badLead, badCong, readPairs, callPairs, readRoot, callRoot}
+use Rattle.lowering.specs.Matching.{walk, endGood, callMatches, varMatches, nodeMatches, matched, nodeAnswer, rowAnswer}
+use Rattle.lowering.specs.Check.{Lowering, sourceRows, targetRows, targetWidths, noClasses, classesOfReads, deadVariable, answerOf, mismatch, offsets, classes, refuse, firstRefusal, countAnswers, graphAnswers, rootAnswers, matchAnswers}
+
+-- a test's refusal, where it is none of the two
+keeps-refuse : (b : Bool) (a : Answer) → keeps a ≡ false → keeps (refuse b a) ≡ false
+keeps-refuse true a e = e
+keeps-refuse false a e = refl
+
+keeps-matched : (b : Bool) (a : Answer) → keeps a ≡ false → keeps (matched b a) ≡ false
+keeps-matched true a e = refl
+keeps-matched false a e = e
+
+-- none of the answers of a list is one of the two
+abbrev Zero : List Answer → Type 0
+Zero [] = Unit {0}
+Zero (a ∷ more) = (keeps a ≡ false) × Zero more
+
+keeps-first : (l : List Answer) → Zero l → keeps (firstRefusal l) ≡ false
+unfolding firstRefusal
+keeps-first [] z = refl
+keeps-first (a ∷ more) z = go (isAccepted a) (keeps-first more (z .1))
+  where
+    go : (b : Bool) → keeps (firstRefusal more) ≡ false → keeps (cond b (firstRefusal more) a) ≡ false
+    go true r = r
+    go false r = z .0
+
+-- the counts' refusals are
+pub keeps-count : (s t : List ℕ) (w0 w1 c e : ℕ) → isAccepted (firstRefusal (countAnswers s t w0 w1 c e)) ≡ false → keeps (firstRefusal (countAnswers s t w0 w1 c e)) ≡ true
+unfolding firstRefusal
+keeps-count s t w0 w1 c e n = go (ragged Source s) (ragged Target t) (ltb w0 (rowCount Source s)) (ltb w1 (rowCount Target t)) (ltb c (rowCount Target t)) (ltb e (rowCount Target t)) n
+  where
+    list : Bool → Bool → Bool → Bool → Bool → Bool → List Answer
+    list b0 b1 b2 b3 b4 b5 =
+        refuse b0 (RowCount 1) ∷ refuse b1 (RowCount 2) ∷ refuse b2 (WorkShort 1) ∷ refuse b3 (WorkShort 2) ∷ refuse b4 (WorkShort 3) ∷ refuse b5 (WorkShort 4) ∷ []
+
+    go : (b0 b1 b2 b3 b4 b5 : Bool) → isAccepted (firstRefusal (list b0 b1 b2 b3 b4 b5)) ≡ false → keeps (firstRefusal (list b0 b1 b2 b3 b4 b5)) ≡ true
+    go true b1 b2 b3 b4 b5 n = refl
+    go false true b2 b3 b4 b5 n = refl
+    go false false true b3 b4 b5 n = refl
+    go false false false true b4 b5 n = refl
+    go false false false false true b5 n = refl
+    go false false false false false true n = refl
+    go false false false false false false n = no-way n
+
+-- the others are not
+pub keeps-graphs : (s eb t tb : List ℕ) (x y : ℕ) → keeps (firstRefusal (graphAnswers s eb t tb x y)) ≡ false
+keeps-graphs s eb t tb x y = keeps-first (graphAnswers s eb t tb x y) (row0, (row1, (bit0, (bit1, (ill0, (ill1, tt))))))
+  where
+    row0 : keeps (refuse (ltb (badRow Source s) (rowCount Source s)) (BadRow (badRow Source s) 1)) ≡ false
+    row0 = keeps-refuse (ltb (badRow Source s) (rowCount Source s)) (BadRow (badRow Source s) 1) refl
+
+    row1 : keeps (refuse (ltb (badRow Target t) (rowCount Target t)) (BadRow (badRow Target t) 2)) ≡ false
+    row1 = keeps-refuse (ltb (badRow Target t) (rowCount Target t)) (BadRow (badRow Target t) 2) refl
+
+    bit0 : keeps (refuse (ltb (badBit eb) (length eb)) (BadBit (badBit eb) 1)) ≡ false
+    bit0 = keeps-refuse (ltb (badBit eb) (length eb)) (BadBit (badBit eb) 1) refl
+
+    bit1 : keeps (refuse (ltb (badBit tb) (length tb)) (BadBit (badBit tb) 2)) ≡ false
+    bit1 = keeps-refuse (ltb (badBit tb) (length tb)) (BadBit (badBit tb) 2) refl
+
+    ill0 : keeps (refuse (ltb x (rowCount Source s)) (Ext x)) ≡ false
+    ill0 = keeps-refuse (ltb x (rowCount Source s)) (Ext x) refl
+
+    ill1 : keeps (refuse (ltb y (rowCount Target t)) (Core y)) ≡ false
+    ill1 = keeps-refuse (ltb y (rowCount Target t)) (Core y) refl
+
+module _ (source ebits eside map reads calls cargs target tbits ent cls : List ℕ) (i r : ℕ) where
+  keeps-node : (node : Node) → keeps (nodeAnswer source ebits eside map reads calls cargs target tbits ent cls i r node) ≡ false
+  keeps-node (Var w) = keeps-matched (varMatches target cls w r) (VarClass i) refl
+  keeps-node (Const s w) = keeps-matched (sameConst ebits (rowAt Source source i) tbits (rowAt Target target r)) (ConstMismatch i) refl
+  keeps-node (Un t a) = keeps-matched (nodeMatches map target (Un t a) r) (NodeMismatch i) refl
+  keeps-node (Bin t a b) = keeps-matched (nodeMatches map target (Bin t a b) r) (NodeMismatch i) refl
+  keeps-node (Extract h l a) = keeps-matched (nodeMatches map target (Extract h l a) r) (NodeMismatch i) refl
+  keeps-node (Extend t a n) = keeps-matched (nodeMatches map target (Extend t a n) r) (NodeMismatch i) refl
+  keeps-node (Ite c t e) = keeps-matched (nodeMatches map target (Ite c t e) r) (NodeMismatch i) refl
+  keeps-node (Select a j s k) = keeps-matched (endGood map reads target ent cls a j (walk source ebits eside map target j k s r)) (ChainMismatch i) refl
+  keeps-node (Call f w s k) = keeps-matched (callMatches eside map calls cargs target ent cls f w s k r) (CallMismatch i) refl
+  keeps-node Unknown = refl
+
+keeps-row : (L : Lowering) (i : ℕ) → keeps (answerOf L i) ≡ false
+unfolding rowAnswer
+keeps-row L i = go (eqb (mapAt (L .map) i) MAX) (ltb (mapAt (L .map) i) (rowCount Target (L .target)))
+  where
+    node : Answer
+    node = nodeAnswer (L .source) (L .ebits) (L .eside) (L .map) (L .reads) (L .calls) (L .cargs) (L .target) (L .tbits) (offsets L) (classes L i) i (mapAt (L .map) i) (nodeOf (rowAt Source (L .source) i))
+
+    go : (b c : Bool) → keeps (cond b Accepted (cond c node (MapOutOfRange i))) ≡ false
+    go true c = refl
+    go false true = keeps-node (L .source) (L .ebits) (L .eside) (L .map) (L .reads) (L .calls) (L .cargs) (L .target) (L .tbits) (offsets L) (classes L i) i (mapAt (L .map) i) (nodeOf (rowAt Source (L .source) i))
+    go false false = refl
+
+module _ (L : Lowering) where
+  abbrev r : ℕ
+  r = badRead (L .reads) (L .target) (targetWidths L) (noClasses L)
+
+  abbrev c : ℕ
+  c = badCall (L .calls) (L .cargs) (L .target) (classesOfReads L)
+
+  keeps-roots : Zero (rootAnswers (L .eroots) (L .map) (L .reads) (L .calls) (L .cargs) (L .target) (L .tbits) (L .troots))
+  keeps-roots = (keeps-refuse (ltb lead (length (L .eroots))) (RootMismatch lead) refl, (keeps-refuse (ltb x (length ps)) (CongruenceMismatch (length (L .eroots) + x)) refl, (keeps-refuse (ltb y (length qs)) (CongruenceMismatch (length (L .eroots) + length ps + y)) refl, (keeps-refuse (not (eqb (length (L .troots)) (length (L .eroots) + length ps + length qs))) (RootMismatch 0) refl, tt))))
+    where
+      lead : ℕ
+      lead = badLead (L .map) (L .eroots) (L .troots)
+
+      ps : List Pair
+      ps = readPairs (L .reads) (L .target) (L .tbits)
+
+      qs : List Pair
+      qs = callPairs (L .calls)
+
+      x : ℕ
+      x = badCong (L .troots) (readRoot (L .reads) (L .target)) (length (L .eroots)) ps
+
+      y : ℕ
+      y = badCong (L .troots) (callRoot (L .calls) (L .cargs) (L .target)) (length (L .eroots) + length ps) qs
+
+  pub keeps-match : keeps (firstRefusal (matchAnswers L)) ≡ false
+  keeps-match =
+      keeps-first (matchAnswers L)
+      (keeps-refuse (not (eqb (length (L .map)) (sourceRows L))) (MapLength (sourceRows L) (length (L .map))) refl, (keeps-refuse (ltb r (readCount (L .reads))) (ReadTable r) refl, (keeps-refuse (ltb c (callCount (L .calls))) (CallTable c) refl, (keeps-refuse (ltb (mismatch L) (sourceRows L)) (answerOf L (mismatch L)) (keeps-row L (mismatch L)), (keeps-refuse (ltb (deadVariable L) (targetRows L)) (DeadEntry (deadVariable L)) refl, keeps-roots)))))

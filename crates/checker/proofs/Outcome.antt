@@ -1,0 +1,143 @@
+-- The outcome of Check, refusal by refusal, and what each step promises the next. Assumes nothing.
+use Prim.Native.Nat.{ℕ, _*_, _-_, _≤_}
+use mathlib.Core.Path.{_≡_, refl, sym, ap, _∙_}
+use mathlib.Core.Bool.{true, false}
+use mathlib.Core.List.{List, [], _++_}
+use borrow.Author.Tests.{ltb-false}
+use lib.Dec.{ltb}
+use lib.ListN.{length, getD, replicate, take, length-replicate}
+use lib.Seq.{take-at}
+use Rattle.answers.specs.declared.Answer.{Answer}
+use Rattle.answers.specs.declared.Answer.the-variants.{Accepted, WorkShort}
+use Rattle.answers.specs.Answer.{isAccepted, keeps, lent, andThen}
+use Rattle.lists.proofs.Build.{build-length}
+use Rattle.rows.specs.declared.Graph.{Graph}
+use Rattle.rows.specs.declared.Graph.the-variants.{Source, Target}
+use Rattle.rows.specs.Row.{rowCount}
+use Rattle.wf.specs.Widths.{rowWidth, widths}
+use Rattle.wf.proofs.Promise.{well-formed}
+use Rattle.lowering.specs.Tables.{readCount, readVar, callCount, callVar, readOffsets}
+use Rattle.lowering.specs.Check.{Lowering, sourceRows, targetRows, sourceWidths, targetWidths, sourceIll, targetIll, noClasses, classesOfReads, classes, offsets, refuse, firstRefusal, countAnswers, graphAnswers, graphsAnswer, matchAnswers, checkAnswer, Outcome, outcome, check}
+use Rattle.lowering.proofs.Classes.{classes-keep-length}
+use Rattle.lowering.proofs.Inversion.{each-accepted, not-refused}
+use Rattle.lowering.proofs.Marks.{marks-length}
+use Rattle.lowering.proofs.Refusals.{refusal-append}
+use Rattle.matching.specs.Ready.{Formed}
+use Rattle.checker.proofs.Form.{no-stop-source, no-stop-target}
+use Rattle.checker.proofs.Keeps.{keeps-count, keeps-graphs, keeps-match}
+
+-- a list of widths has one for each row, and stands in front
+pub width-count : (graph : Graph) (nbits : ℕ) (side g : List ℕ) → length (widths graph nbits side g) ≡ rowCount graph g
+width-count graph nbits side g = build-length (rowWidth graph nbits side g) (rowCount graph g)
+
+pub widths-front : (graph : Graph) (nbits n : ℕ) (side g ws rest : List ℕ) → n ≡ rowCount graph g → ws ≡ widths graph nbits side g ++ rest
+    → take n ws ≡ widths graph nbits side g
+widths-front graph nbits n side g ws rest e q = rw (e, q) (take-at (widths graph nbits side g) rest (rowCount graph g) (width-count graph nbits side g))
+
+-- cleared after the last row
+pub widths-cleared : (graph : Graph) (nbits n k : ℕ) (side g ws rest after : List ℕ) → n ≡ rowCount graph g → ws ≡ widths graph nbits side g ++ rest → length ws ≡ k
+    → after ≡ take n ws ++ replicate (length ws - n) 0 → after ≡ widths graph nbits side g ++ replicate (k - rowCount graph g) 0
+widths-cleared graph nbits n k side g ws rest after e q l f = f ∙ rw (widths-front graph nbits n side g ws rest e q, l, e)
+
+module _ (L : Lowering) (ws0 ws1 cls ent : List ℕ) where
+  abbrev pub counts : Answer
+  counts = firstRefusal (countAnswers (L .source) (L .target) (length ws0) (length ws1) (length cls) (length ent))
+
+  abbrev pub forms : Answer
+  forms = graphsAnswer (L .source) (L .ebits) (L .eside) (L .target) (L .tbits)
+
+  abbrev pub matching : Answer
+  matching = firstRefusal (matchAnswers L)
+
+  abbrev whole : Answer
+  whole = checkAnswer L (length ws0) (length ws1) (length cls) (length ent)
+
+  whole-is : whole ≡ andThen counts (andThen forms matching)
+  whole-is =
+      refusal-append (countAnswers (L .source) (L .target) (length ws0) (length ws1) (length cls) (length ent))
+      (graphAnswers (L .source) (L .ebits) (L .target) (L .tbits) (sourceIll L) (targetIll L) ++ matchAnswers L)
+      ∙ ap (andThen counts) (refusal-append (graphAnswers (L .source) (L .ebits) (L .target) (L .tbits) (sourceIll L) (targetIll L)) (matchAnswers L))
+
+  settle : (a : Answer) (x0 x1 x2 x3 : List ℕ) → whole ≡ a → lent a ws0 (sourceWidths L) ≡ x0 → lent a ws1 (targetWidths L) ≡ x1
+      → lent a cls (classes L (sourceRows L)) ≡ x2 → lent a ent (offsets L) ≡ x3 → outcome a x0 x1 x2 x3 ≡ check L ws0 ws1 cls ent
+  settle a x0 x1 x2 x3 e f g h k = sym (rw (e, f, g, h, k))
+
+  module _ (a : Answer) where
+    zeroed : whole ≡ a → isAccepted a ≡ false → keeps a ≡ false
+        → outcome a (replicate (length ws0) 0) (replicate (length ws1) 0) (replicate (length cls) 0) (replicate (length ent) 0) ≡ check L ws0 ws1 cls ent
+    zeroed e n k = settle a _ _ _ _ e (rw (n, k)) (rw (n, k)) (rw (n, k)) (rw (n, k))
+
+    pub count-done : a ≡ counts → isAccepted a ≡ false → outcome a ws0 ws1 cls ent ≡ check L ws0 ws1 cls ent
+    count-done e n =
+        let r : isAccepted counts ≡ false = rw e at n in
+        let k : keeps a ≡ true = rw e (keeps-count (L .source) (L .target) (length ws0) (length ws1) (length cls) (length ent) r) in
+        settle a ws0 ws1 cls ent (whole-is ∙ rw r (sym e)) (rw (n, k)) (rw (n, k)) (rw (n, k)) (rw (n, k))
+
+    module _ (c : isAccepted counts ≡ true) where
+      pub graph-done : a ≡ forms → isAccepted a ≡ false
+          → outcome a (replicate (length ws0) 0) (replicate (length ws1) 0) (replicate (length cls) 0) (replicate (length ent) 0) ≡ check L ws0 ws1 cls ent
+      graph-done e n =
+          zeroed (whole-is ∙ rw (c, rw e at n) (sym e)) n
+          (rw e (keeps-graphs (L .source) (L .ebits) (L .target) (L .tbits) (sourceIll L) (targetIll L)))
+
+      module _ (g : isAccepted forms ≡ true) where
+        pub match-done : a ≡ matching → isAccepted a ≡ false
+            → outcome a (replicate (length ws0) 0) (replicate (length ws1) 0) (replicate (length cls) 0) (replicate (length ent) 0) ≡ check L ws0 ws1 cls ent
+        match-done e n = zeroed (whole-is ∙ rw (c, g) (sym e)) n (rw e (keeps-match L))
+
+        pub accept-done : a ≡ matching → isAccepted a ≡ true
+            → outcome a (sourceWidths L ++ replicate (length ws0 - sourceRows L) 0) (targetWidths L ++ replicate (length ws1 - targetRows L) 0)
+            (classes L (sourceRows L) ++ replicate (length cls - targetRows L) 0) (offsets L ++ replicate (length ent - targetRows L) 0)
+            ≡ check L ws0 ws1 cls ent
+        accept-done e n =
+            settle a _ _ _ _ (whole-is ∙ rw (c, g) (sym e)) (rw (n, width-count Source (length (L .ebits)) (L .eside) (L .source)))
+            (rw (n, width-count Target (length (L .tbits)) [] (L .target))) (rw (n, class-count)) (rw (n, offset-count))
+          where
+            class-count : length (classes L (sourceRows L)) ≡ targetRows L
+            class-count =
+                classes-keep-length L (sourceRows L)
+                ∙ marks-length (callVar (L .calls)) (λ k. 3) (classesOfReads L) (callCount (L .calls))
+                ∙ marks-length (readVar (L .reads)) (λ k. 2) (noClasses L) (readCount (L .reads))
+                ∙ length-replicate {A = ℕ} (targetRows L) 0
+
+            offset-count : length (offsets L) ≡ targetRows L
+            offset-count =
+                marks-length (callVar (L .calls)) (λ k. k * 4) (readOffsets (L .reads) (noClasses L) (readCount (L .reads))) (callCount (L .calls))
+                ∙ marks-length (readVar (L .reads)) (λ k. k * 3) (noClasses L) (readCount (L .reads))
+                ∙ length-replicate {A = ℕ} (targetRows L) 0
+
+  -- counts that pass give room
+  module _ (c : isAccepted counts ≡ true) where
+    room : (k b n : ℕ) → isAccepted (refuse (ltb b n) (WorkShort k)) ≡ true → n ≤ b
+    room k b n e = ltb-false b n (not-refused (ltb b n) (WorkShort k) refl e)
+
+    at : (k : ℕ) → isAccepted (getD (countAnswers (L .source) (L .target) (length ws0) (length ws1) (length cls) (length ent)) k Accepted) ≡ true
+    at k = each-accepted (countAnswers (L .source) (L .target) (length ws0) (length ws1) (length cls) (length ent)) c k
+
+    pub room-0 : sourceRows L ≤ length ws0
+    room-0 = room 1 (length ws0) (sourceRows L) (at 2)
+
+    pub room-1 : targetRows L ≤ length ws1
+    room-1 = room 2 (length ws1) (targetRows L) (at 3)
+
+    pub room-2 : targetRows L ≤ length cls
+    room-2 = room 3 (length cls) (targetRows L) (at 4)
+
+    pub room-3 : targetRows L ≤ length ent
+    room-3 = room 4 (length ent) (targetRows L) (at 5)
+
+  -- forms that pass are well formed
+  pub forms-formed : isAccepted forms ≡ true → Formed (L .source) (L .ebits) (L .eside) (L .target) (L .tbits)
+  forms-formed g =
+      record {
+        source-formed = well-formed Source (length (L .ebits)) (L .eside) (L .source) (no-stop-source (L .source) (L .ebits) (L .target) (L .tbits) (sourceIll L) (targetIll L) g);
+        target-formed = well-formed Target (length (L .tbits)) [] (L .target) (no-stop-target (L .source) (L .ebits) (L .target) (L .tbits) (sourceIll L) (targetIll L) g);
+      }
+
+-- an outcome by its lists
+pub by-lists : (a : Answer) (x0 x1 x2 x3 y0 y1 y2 y3 : List ℕ) (z : Outcome) → x0 ≡ y0 → x1 ≡ y1 → x2 ≡ y2 → x3 ≡ y3 → outcome a y0 y1 y2 y3 ≡ z → outcome a x0 x1 x2 x3 ≡ z
+by-lists a x0 x1 x2 x3 y0 y1 y2 y3 z e f g h k = rw (e, f, g, h) k
+
+-- so many zeros
+pub zeros-long : (x : List ℕ) (k n : ℕ) → x ≡ replicate n 0 → n ≡ k → x ≡ replicate k 0
+zeros-long x k n e l = e ∙ rw l

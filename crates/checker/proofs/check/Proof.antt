@@ -1,0 +1,190 @@
+-- `checker::check` meets its contract. Assumes nothing.
+use mathlib.Core.Path.{sym, _∙_}
+use mathlib.Core.List.{[]}
+use borrow.Author.Tests.{not-true, not-false}
+use lib.ListN.{length}
+use lib.Seq.{length-take-le}
+use Rattle.rows.specs.declared.Graph.the-variants.{Source, Target}
+use Rattle.lowering.specs.Check.{lowering}
+use Rattle.checker.proofs.Outcome.{widths-front, widths-cleared, count-done, graph-done, match-done, accept-done, room-0, room-1, room-2, room-3, forms-formed, by-lists, zeros-long}
+use borrow.Author.Needs.{needs}
+use Rattle.checker.proofs.check.Statement.{statement}
+use Rattle.checker.proofs.check.Tie as tie
+
+count-answer-requires : tie.Need-count-answer-requires
+count-answer-requires c κs = search needs
+
+is-accepted-requires : tie.Need-is-accepted-requires
+is-accepted-requires c κs = search needs
+
+returns : tie.Need-returns
+returns c =
+    let s = c .before .before .before .before .before .before .before .before .before .before .before .before .before .before .before .before .before .before .args in
+    let L = lowering (s .source .now) (s .ebits .now) (s .eside .now) (s .eroots .now) (s .map .now) (s .reads .now) (s .calls .now) (s .cargs .now) (s .target .now) (s .tbits .now) (s .troots .now) in
+    count-done L (s .ws0 .now) (s .ws1 .now) (s .cls .now) (s .ent .now) _ (c .before .before .count-answer .ensures) (sym (c .before .is-accepted .ensures) ∙ not-true _ (c .if1 .taken))
+
+graphs-requires : tie.Need-graphs-requires
+graphs-requires c κs =
+    let s = c .before .before .before .before .before .before .before .before .before .before .before .before .before .before .before .before .before .before .before .before .args in
+    let L = lowering (s .source .now) (s .ebits .now) (s .eside .now) (s .eroots .now) (s .map .now) (s .reads .now) (s .calls .now) (s .cargs .now) (s .target .now) (s .tbits .now) (s .troots .now) in
+    let c1 = rw (c .before .before .before .before .count-answer .ensures) at (sym (c .before .before .before .is-accepted .ensures) ∙ not-false _ (c .before .before .if1 .left)) in
+    (room-0 L (s .ws0 .now) (s .ws1 .now) (s .cls .now) (s .ent .now) c1, room-1 L (s .ws0 .now) (s .ws1 .now) (s .cls .now) (s .ent .now) c1)
+
+is-accepted-requires-2 : tie.Need-is-accepted-requires-2
+is-accepted-requires-2 c κs = search needs
+
+clear-all-requires : tie.Need-clear-all-requires
+clear-all-requires c κs = search needs
+
+same-length : tie.Need-same-length
+same-length c = search needs
+
+same-length-2 : tie.Need-same-length-2
+same-length-2 c = search needs
+
+same-length-3 : tie.Need-same-length-3
+same-length-3 c = search needs
+
+same-length-4 : tie.Need-same-length-4
+same-length-4 c = search needs
+
+returns-2 : tie.Need-returns-2
+returns-2 c =
+    let s = c .before .before .before .before .before .before .before .before .before .before .before .before .before .before .before .before .before .before .before .before .before .before .before .before .before .before .before .before .before .before .before .before .before .before .before .before .before .before .before .before .args in
+    let L = lowering (s .source .now) (s .ebits .now) (s .eside .now) (s .eroots .now) (s .map .now) (s .reads .now) (s .calls .now) (s .cargs .now) (s .target .now) (s .tbits .now) (s .troots .now) in
+    let c1 = rw (c .before .before .before .before .before .before .before .before .before .before .before .before .before .before .before .before .before .before .before .before .before .before .before .before .count-answer .ensures) at (sym (c .before .before .before .before .before .before .before .before .before .before .before .before .before .before .before .before .before .before .before .before .before .before .before .is-accepted .ensures) ∙ not-false _ (c .before .before .before .before .before .before .before .before .before .before .before .before .before .before .before .before .before .before .before .before .before .before .if1 .left)) in
+    let z = c .before .before .before .before .before .before .before .before .clear-all .ensures in
+    let k = c .before .before .before .before .before .before .before .before .before .before .before .before .before .before .before .before .before .before .before .graphs in
+    by-lists _ _ _ _ _ _ _ _ _ _ (zeros-long _ (length (s .ws0 .now)) _ (z .0) (k .kept .1 .1 .1 .1 .1 .0)) (zeros-long _ (length (s .ws1 .now)) _ (z .1 .0) (k .kept .1 .1 .1 .1 .1 .1 .0)) (z .1 .1 .0) (z .1 .1 .1) (graph-done L (s .ws0 .now) (s .ws1 .now) (s .cls .now) (s .ent .now) _ c1 (k .ensures .0) (sym (c .before .before .before .before .before .before .before .before .before .before .before .before .before .before .is-accepted2 .ensures) ∙ not-true _ (c .before .before .before .before .before .before .before .before .before .before .before .before .before .if2 .taken)))
+
+row-count-requires : tie.Need-row-count-requires
+row-count-requires c κs = search needs
+
+slice-reshare-prefix-lowered : tie.Need-slice-reshare-prefix-lowered
+slice-reshare-prefix-lowered c =
+    let s = c .before .before .before .before .before .before .before .before .before .before .before .before .before .before .before .before .before .before .before .before .before .before .before .before .before .before .before .before .args in
+    let L = lowering (s .source .now) (s .ebits .now) (s .eside .now) (s .eroots .now) (s .map .now) (s .reads .now) (s .calls .now) (s .cargs .now) (s .target .now) (s .tbits .now) (s .troots .now) in
+    let c1 = rw (c .before .before .before .before .before .before .before .before .before .before .before .before .count-answer .ensures) at (sym (c .before .before .before .before .before .before .before .before .before .before .before .is-accepted .ensures) ∙ not-false _ (c .before .before .before .before .before .before .before .before .before .before .if1 .left)) in
+    rw (c .row-count .ensures, c .before .before .before .before .before .before .before .graphs .kept .1 .1 .1 .1 .1 .1 .0) (room-1 L (s .ws0 .now) (s .ws1 .now) (s .cls .now) (s .ent .now) c1)
+
+slice-aggregate-lowered : tie.Need-slice-aggregate-lowered
+slice-aggregate-lowered c =
+    let s = c .before .before .before .before .before .before .before .before .before .before .before .before .before .before .before .before .before .before .before .before .before .before .before .before .before .before .before .before .before .args in
+    let L = lowering (s .source .now) (s .ebits .now) (s .eside .now) (s .eroots .now) (s .map .now) (s .reads .now) (s .calls .now) (s .cargs .now) (s .target .now) (s .tbits .now) (s .troots .now) in
+    let c1 = rw (c .before .before .before .before .before .before .before .before .before .before .before .before .before .count-answer .ensures) at (sym (c .before .before .before .before .before .before .before .before .before .before .before .before .is-accepted .ensures) ∙ not-false _ (c .before .before .before .before .before .before .before .before .before .before .before .if1 .left)) in
+    sym (length-take-le _ _ (rw (c .before .row-count .ensures, c .before .before .before .before .before .before .before .before .graphs .kept .1 .1 .1 .1 .1 .1 .0) (room-1 L (s .ws0 .now) (s .ws1 .now) (s .cls .now) (s .ent .now) c1)))
+
+lowered-requires : tie.Need-lowered-requires
+lowered-requires c κs =
+    let s = c .before .before .before .before .before .before .before .before .before .before .before .before .before .before .before .before .before .before .before .before .before .before .before .before .before .before .before .before .before .before .before .args in
+    let L = lowering (s .source .now) (s .ebits .now) (s .eside .now) (s .eroots .now) (s .map .now) (s .reads .now) (s .calls .now) (s .cargs .now) (s .target .now) (s .tbits .now) (s .troots .now) in
+    let c1 = rw (c .before .before .before .before .before .before .before .before .before .before .before .before .before .before .before .count-answer .ensures) at (sym (c .before .before .before .before .before .before .before .before .before .before .before .before .before .before .is-accepted .ensures) ∙ not-false _ (c .before .before .before .before .before .before .before .before .before .before .before .before .before .if1 .left)) in
+    let ok = sym (c .before .before .before .before .before .is-accepted2 .ensures) ∙ not-false _ (c .before .before .before .before .if2 .left) in
+    let g1 = rw (c .before .before .before .before .before .before .before .before .before .before .graphs .ensures .0) at ok in
+    (forms-formed L (s .ws0 .now) (s .ws1 .now) (s .cls .now) (s .ent .now) g1, (widths-front Target (length (s .tbits .now)) _ [] (s .target .now) _ _ (c .before .before .before .row-count .ensures) (c .before .before .before .before .before .before .before .before .before .before .graphs .ensures .1 .1 ok), (room-2 L (s .ws0 .now) (s .ws1 .now) (s .cls .now) (s .ent .now) c1, room-3 L (s .ws0 .now) (s .ws1 .now) (s .cls .now) (s .ent .now) c1)))
+
+is-accepted-requires-3 : tie.Need-is-accepted-requires-3
+is-accepted-requires-3 c κs = search needs
+
+clear-all-requires-2 : tie.Need-clear-all-requires-2
+clear-all-requires-2 c κs = search needs
+
+same-length-5 : tie.Need-same-length-5
+same-length-5 c = search needs
+
+same-length-6 : tie.Need-same-length-6
+same-length-6 c = search needs
+
+same-length-7 : tie.Need-same-length-7
+same-length-7 c = search needs
+
+same-length-8 : tie.Need-same-length-8
+same-length-8 c = search needs
+
+returns-3 : tie.Need-returns-3
+returns-3 c =
+    let s = c .before .before .before .before .before .before .before .before .before .before .before .before .before .before .before .before .before .before .before .before .before .before .before .before .before .before .before .before .before .before .before .before .before .before .before .before .before .before .before .before .before .before .before .before .before .before .before .before .before .before .before .args in
+    let L = lowering (s .source .now) (s .ebits .now) (s .eside .now) (s .eroots .now) (s .map .now) (s .reads .now) (s .calls .now) (s .cargs .now) (s .target .now) (s .tbits .now) (s .troots .now) in
+    let c1 = rw (c .before .before .before .before .before .before .before .before .before .before .before .before .before .before .before .before .before .before .before .before .before .before .before .before .before .before .before .before .before .before .before .before .before .before .before .count-answer .ensures) at (sym (c .before .before .before .before .before .before .before .before .before .before .before .before .before .before .before .before .before .before .before .before .before .before .before .before .before .before .before .before .before .before .before .before .before .before .is-accepted .ensures) ∙ not-false _ (c .before .before .before .before .before .before .before .before .before .before .before .before .before .before .before .before .before .before .before .before .before .before .before .before .before .before .before .before .before .before .before .before .before .if1 .left)) in
+    let ok = sym (c .before .before .before .before .before .before .before .before .before .before .before .before .before .before .before .before .before .before .before .before .before .before .before .before .before .is-accepted2 .ensures) ∙ not-false _ (c .before .before .before .before .before .before .before .before .before .before .before .before .before .before .before .before .before .before .before .before .before .before .before .before .if2 .left) in
+    let g1 = rw (c .before .before .before .before .before .before .before .before .before .before .before .before .before .before .before .before .before .before .before .before .before .before .before .before .before .before .before .before .before .before .graphs .ensures .0) at ok in
+    let z = c .before .before .before .before .before .before .before .before .clear-all2 .ensures in
+    let k = c .before .before .before .before .before .before .before .before .before .before .before .before .before .before .before .before .before .before .before .before .before .before .before .before .before .before .before .before .before .before .graphs in
+    let l = c .before .before .before .before .before .before .before .before .before .before .before .before .before .before .before .before .before .before .before .lowered in
+    by-lists _ _ _ _ _ _ _ _ _ _ (zeros-long _ (length (s .ws0 .now)) _ (z .0) (k .kept .1 .1 .1 .1 .1 .0)) (zeros-long _ (length (s .ws1 .now)) _ (z .1 .0) (k .kept .1 .1 .1 .1 .1 .1 .0)) (zeros-long _ (length (s .cls .now)) _ (z .1 .1 .0) (l .kept .1 .1 .1 .1 .1 .1 .1 .1 .1 .1 .1 .1 .0)) (zeros-long _ (length (s .ent .now)) _ (z .1 .1 .1) (l .kept .1 .1 .1 .1 .1 .1 .1 .1 .1 .1 .1 .1 .1 .0)) (match-done L (s .ws0 .now) (s .ws1 .now) (s .cls .now) (s .ent .now) _ c1 g1 (l .ensures .0) (sym (c .before .before .before .before .before .before .before .before .before .before .before .before .before .before .is-accepted3 .ensures) ∙ not-true _ (c .before .before .before .before .before .before .before .before .before .before .before .before .before .if3 .taken)))
+
+row-count-requires-2 : tie.Need-row-count-requires-2
+row-count-requires-2 c κs = search needs
+
+clear-from-requires : tie.Need-clear-from-requires
+clear-from-requires c κs =
+    let s = c .before .before .before .before .before .before .before .before .before .before .before .before .before .before .before .before .before .before .before .before .before .before .before .before .before .before .before .before .before .before .before .before .before .before .before .before .before .before .before .before .args in
+    let L = lowering (s .source .now) (s .ebits .now) (s .eside .now) (s .eroots .now) (s .map .now) (s .reads .now) (s .calls .now) (s .cargs .now) (s .target .now) (s .tbits .now) (s .troots .now) in
+    let c1 = rw (c .before .before .before .before .before .before .before .before .before .before .before .before .before .before .before .before .before .before .before .before .before .before .before .before .count-answer .ensures) at (sym (c .before .before .before .before .before .before .before .before .before .before .before .before .before .before .before .before .before .before .before .before .before .before .before .is-accepted .ensures) ∙ not-false _ (c .before .before .before .before .before .before .before .before .before .before .before .before .before .before .before .before .before .before .before .before .before .before .if1 .left)) in
+    rw (c .row-count2 .ensures, c .before .before .before .before .before .before .before .before .before .before .before .before .before .before .before .before .before .before .before .graphs .kept .1 .1 .1 .1 .1 .0) (room-0 L (s .ws0 .now) (s .ws1 .now) (s .cls .now) (s .ent .now) c1)
+
+clear-from-requires-2 : tie.Need-clear-from-requires-2
+clear-from-requires-2 c κs =
+    let s = c .before .before .before .before .before .before .before .before .before .before .before .before .before .before .before .before .before .before .before .before .before .before .before .before .before .before .before .before .before .before .before .before .before .before .before .before .before .before .before .before .before .before .before .before .args in
+    let L = lowering (s .source .now) (s .ebits .now) (s .eside .now) (s .eroots .now) (s .map .now) (s .reads .now) (s .calls .now) (s .cargs .now) (s .target .now) (s .tbits .now) (s .troots .now) in
+    let c1 = rw (c .before .before .before .before .before .before .before .before .before .before .before .before .before .before .before .before .before .before .before .before .before .before .before .before .before .before .before .before .count-answer .ensures) at (sym (c .before .before .before .before .before .before .before .before .before .before .before .before .before .before .before .before .before .before .before .before .before .before .before .before .before .before .before .is-accepted .ensures) ∙ not-false _ (c .before .before .before .before .before .before .before .before .before .before .before .before .before .before .before .before .before .before .before .before .before .before .before .before .before .before .if1 .left)) in
+    rw (c .before .before .before .before .before .before .before .before .before .before .before .before .before .before .before .before .row-count .ensures, c .before .before .before .before .before .before .before .before .before .before .before .before .before .before .before .before .before .before .before .before .before .before .before .graphs .kept .1 .1 .1 .1 .1 .1 .0) (room-1 L (s .ws0 .now) (s .ws1 .now) (s .cls .now) (s .ent .now) c1)
+
+same-length-9 : tie.Need-same-length-9
+same-length-9 c = search needs
+
+same-length-10 : tie.Need-same-length-10
+same-length-10 c = search needs
+
+same-length-11 : tie.Need-same-length-11
+same-length-11 c = search needs
+
+same-length-12 : tie.Need-same-length-12
+same-length-12 c = search needs
+
+returns-4 : tie.Need-returns-4
+returns-4 c =
+    let s = c .before .before .before .before .before .before .before .before .before .before .before .before .before .before .before .before .before .before .before .before .before .before .before .before .before .before .before .before .before .before .before .before .before .before .before .before .before .before .before .before .before .before .before .before .before .before .before .args in
+    let L = lowering (s .source .now) (s .ebits .now) (s .eside .now) (s .eroots .now) (s .map .now) (s .reads .now) (s .calls .now) (s .cargs .now) (s .target .now) (s .tbits .now) (s .troots .now) in
+    let c1 = rw (c .before .before .before .before .before .before .before .before .before .before .before .before .before .before .before .before .before .before .before .before .before .before .before .before .before .before .before .before .before .before .before .count-answer .ensures) at (sym (c .before .before .before .before .before .before .before .before .before .before .before .before .before .before .before .before .before .before .before .before .before .before .before .before .before .before .before .before .before .before .is-accepted .ensures) ∙ not-false _ (c .before .before .before .before .before .before .before .before .before .before .before .before .before .before .before .before .before .before .before .before .before .before .before .before .before .before .before .before .before .if1 .left)) in
+    let ok = sym (c .before .before .before .before .before .before .before .before .before .before .before .before .before .before .before .before .before .before .before .before .before .is-accepted2 .ensures) ∙ not-false _ (c .before .before .before .before .before .before .before .before .before .before .before .before .before .before .before .before .before .before .before .before .if2 .left) in
+    let g1 = rw (c .before .before .before .before .before .before .before .before .before .before .before .before .before .before .before .before .before .before .before .before .before .before .before .before .before .before .graphs .ensures .0) at ok in
+    let k = c .before .before .before .before .before .before .before .before .before .before .before .before .before .before .before .before .before .before .before .before .before .before .before .before .before .before .graphs in
+    let l = c .before .before .before .before .before .before .before .before .before .before .before .before .before .before .before .lowered in
+    let m = sym (c .before .before .before .before .before .before .before .before .before .before .is-accepted3 .ensures) ∙ not-false _ (c .before .before .before .before .before .before .before .before .before .if3 .left) in
+    by-lists _ _ _ _ _ _ _ _ _ _ (widths-cleared Source (length (s .ebits .now)) _ (length (s .ws0 .now)) (s .eside .now) (s .source .now) _ _ _ (c .before .before .before .before .before .before .before .row-count2 .ensures) (k .ensures .1 .0 ok) (k .kept .1 .1 .1 .1 .1 .0) (c .before .before .before .before .before .before .clear-from .ensures)) (widths-cleared Target (length (s .tbits .now)) _ (length (s .ws1 .now)) [] (s .target .now) _ _ _ (c .before .before .before .before .before .before .before .before .before .before .before .before .before .before .before .before .before .before .before .row-count .ensures) (k .ensures .1 .1 ok) (k .kept .1 .1 .1 .1 .1 .1 .0) (c .before .before .clear-from2 .ensures)) (l .ensures .1 .0 m) (l .ensures .1 .1 m) (accept-done L (s .ws0 .now) (s .ws1 .now) (s .cls .now) (s .ent .now) _ c1 g1 (l .ensures .0) m)
+
+pub check-spec : {M : Type 1} → statement M
+check-spec =
+    tie.close
+    (tie.spec
+    count-answer-requires
+    is-accepted-requires
+    returns
+    graphs-requires
+    is-accepted-requires-2
+    clear-all-requires
+    same-length
+    same-length-2
+    same-length-3
+    same-length-4
+    returns-2
+    row-count-requires
+    slice-reshare-prefix-lowered
+    slice-aggregate-lowered
+    lowered-requires
+    is-accepted-requires-3
+    clear-all-requires-2
+    same-length-5
+    same-length-6
+    same-length-7
+    same-length-8
+    returns-3
+    row-count-requires-2
+    clear-from-requires
+    clear-from-requires-2
+    same-length-9
+    same-length-10
+    same-length-11
+    same-length-12
+    returns-4)
