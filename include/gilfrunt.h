@@ -105,6 +105,55 @@ gilfrunt_answer gilfrunt_values(
     uint64_t *widths, size_t widths_len,
     uint64_t *values, size_t values_len);
 
+/* Whether the target graph is the lowering of the source graph. The eleven lists
+ * that are read are those of ordeal's check_sliver_lowering, in its order: source
+ * rows, their bits, side list and roots; the map; the read table (in threes), the
+ * call table (in fours), its argument list; target rows, their bits and roots.
+ * Answers the first of these that applies:
+ *
+ *   15  place 1, 2         source_len is no multiple of 5, target_len none of 4
+ *   18  place 1 to 4       source_widths, target_widths, classes or entries has
+ *                          fewer words than its graph has rows
+ *   16  place row,         badly encoded row, of the source (1), then the
+ *       detail 1, 2        target (2)
+ *   17  place position,    byte above 1, likewise
+ *       detail 1, 2
+ *    1  place row          source row that is not well formed
+ *    2  place row          target row that is not well formed
+ *    3  place expected,    map_len is not the number of source rows
+ *       detail found
+ *    5  place entry        bad read entry
+ *    6  place entry        bad call entry
+ *    4, 7 to 11            source row that is mapped past the target, or does not
+ *       place row          match its image: variable, constant, other row,
+ *                          Select, Call
+ *   14  place variable     entry that no source row reaches
+ *   12  place position     source root whose image is not the target's root there
+ *   13  place position     target root that is not the congruence root due there
+ *   12  place 0            target roots left over
+ *    0                     accepted: source and target are satisfiable together
+ *
+ * 0 leaves both graphs' widths, the classes and the entry offsets of the target's
+ * rows, and zeros after the last row. 15 and 18 write nothing; every other refusal
+ * sets all four lists to 0. The other lists are only read.
+ */
+gilfrunt_answer gilfrunt_check(
+    const uint64_t *source, size_t source_len,
+    const uint8_t *source_bits, size_t source_bits_len,
+    const uint64_t *side, size_t side_len,
+    const uint64_t *source_roots, size_t source_roots_len,
+    const uint64_t *map, size_t map_len,
+    const uint64_t *reads, size_t reads_len,
+    const uint64_t *calls, size_t calls_len,
+    const uint64_t *args, size_t args_len,
+    const uint64_t *target, size_t target_len,
+    const uint8_t *target_bits, size_t target_bits_len,
+    const uint64_t *target_roots, size_t target_roots_len,
+    uint64_t *source_widths, size_t source_widths_len,
+    uint64_t *target_widths, size_t target_widths_len,
+    uint64_t *classes, size_t classes_len,
+    uint64_t *entries, size_t entries_len);
+
 #ifdef __cplusplus
 }
 #endif

@@ -5,6 +5,7 @@ use Rattle.answers.specs.declared.Words.{Words}
 use Rattle.answers.specs.Answer.{wordsOf}
 use Rattle.widths.specs.Widths.{Out}
 use Rattle.values.specs.Values as values
+use Rattle.lowering.specs.Check.{Outcome}
 
 -- number, place and detail, and the lent list afterwards
 pub record Result : Type 0 where
@@ -28,3 +29,17 @@ results w k l = record { words = w; first = k; second = l }
 
 abbrev pub resultsOf : values.Out → Results
 resultsOf o = results (wordsOf (o .answer)) (o .widths) (o .values)
+
+-- the same with Check's four lists
+pub record Checked : Type 0 where
+  pub words : Words
+  pub source-widths : List ℕ
+  pub target-widths : List ℕ
+  pub class-list : List ℕ
+  pub entry-list : List ℕ
+
+abbrev pub checked : Words → List ℕ → List ℕ → List ℕ → List ℕ → Checked
+checked w ws0 ws1 cls ent = record { words = w; source-widths = ws0; target-widths = ws1; class-list = cls; entry-list = ent }
+
+abbrev pub checkedOf : Outcome → Checked
+checkedOf o = checked (wordsOf (o .answer)) (o .source-widths) (o .target-widths) (o .class-list) (o .entry-list)

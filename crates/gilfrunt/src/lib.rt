@@ -3,7 +3,8 @@ ghost use mathlib.Core.Path.{_≡_};
 ghost use Rattle.answers.specs.Answer.{wordsOf};
 ghost use Rattle.widths.specs.Widths.{sourceWidths, targetWidths, rootsAnswer};
 ghost use Rattle.values.specs.Values.{values};
-ghost use Rattle.gilfrunt.specs.Exports.{result, resultOf, results, resultsOf};
+ghost use Rattle.gilfrunt.specs.Exports.{result, resultOf, results, resultsOf, checked, checkedOf};
+ghost use Rattle.lowering.specs.Check.{lowering, check};
 use answers::Words;
 
 #[no_mangle]
@@ -46,5 +47,45 @@ pub extern "C" fn gilfrunt_values(
     ensures outcome { λ r. ⌜ results r (now (widths .exit)) (now (numbers .exit)) ≡ resultsOf (values (now (target .entry)) (now (bits .entry)) (now (given .entry)) (now (widths .entry)) (now (numbers .entry))) ⌝ }
 {
     let a = values::values(target, bits, given, widths, numbers);
+    answers::words_of(a)
+}
+
+#[no_mangle]
+pub extern "C" fn gilfrunt_check(
+    source: &[u64],
+    ebits: &[u8],
+    eside: &[u64],
+    eroots: &[u64],
+    map: &[u64],
+    reads: &[u64],
+    calls: &[u64],
+    cargs: &[u64],
+    target: &[u64],
+    tbits: &[u8],
+    troots: &[u64],
+    ws0: &mut [u64],
+    ws1: &mut [u64],
+    classes: &mut [u64],
+    entries: &mut [u64],
+) -> Words
+    ensures outcome { λ r. ⌜ checked r (now (ws0 .exit)) (now (ws1 .exit)) (now (classes .exit)) (now (entries .exit)) ≡ checkedOf (check (lowering (now (source .entry)) (now (ebits .entry)) (now (eside .entry)) (now (eroots .entry)) (now (map .entry)) (now (reads .entry)) (now (calls .entry)) (now (cargs .entry)) (now (target .entry)) (now (tbits .entry)) (now (troots .entry))) (now (ws0 .entry)) (now (ws1 .entry)) (now (classes .entry)) (now (entries .entry))) ⌝ }
+{
+    let a = checker::check(
+        source,
+        ebits,
+        eside,
+        eroots,
+        map,
+        reads,
+        calls,
+        cargs,
+        target,
+        tbits,
+        troots,
+        ws0,
+        ws1,
+        classes,
+        entries,
+    );
     answers::words_of(a)
 }
