@@ -1,11 +1,10 @@
 //! Check as an operation. The answer that is expected comes from the published
 //! Rust; classes and entry offsets, which the Rust keeps to itself, and the
-//! second reference come from restated.rs. The library has no Check yet, so the
-//! operation is not among `OPERATIONS`; selftest.rs runs it without the library.
+//! second reference come from restated.rs. selftest.rs runs it without the library.
 
 use crate::lowering;
 use crate::operation::{Kind, Lists, Operation, Outcome};
-use crate::ours::Answer;
+use crate::ours::{self, Answer};
 use crate::random::Random;
 use crate::reference;
 use crate::restated::{self, Written};
@@ -78,8 +77,19 @@ impl Operation for Check {
         lists
     }
 
-    fn ours(&self, _lists: &Lists) -> Outcome {
-        panic!("the library has no Check yet")
+    fn ours(&self, lists: &Lists) -> Outcome {
+        let mut lists = lists.clone();
+        let mut bits = [at::SOURCE_BITS, at::TARGET_BITS]
+            .map(|list| lists[list].iter().map(|&b| b as u8).collect::<Vec<u8>>());
+        let (answer, strayed) = call(&mut lists, &mut bits);
+        for (list, bits) in [at::SOURCE_BITS, at::TARGET_BITS].into_iter().zip(bits) {
+            lists[list] = bits.into_iter().map(u64::from).collect();
+        }
+        Outcome {
+            answer,
+            lists,
+            strayed,
+        }
     }
 
     fn expected(&self, lists: &Lists) -> Outcome {
@@ -118,6 +128,29 @@ impl Operation for Check {
         simpler.extend(targets);
         simpler
     }
+}
+
+/// The library's answer, each lent list between fences, and whether it wrote to one.
+fn call(lists: &mut Lists, bits: &mut [Vec<u8>; 2]) -> (Answer, bool) {
+    let [source, _, side, source_roots, map, reads, calls, arguments, target, _, target_roots, ws0, ws1, classes, entries] =
+        &mut lists[..]
+    else {
+        unreachable!("check has fifteen lists")
+    };
+    let [source_bits, target_bits] = bits;
+    let mut inner = false;
+    let (answer, outer) = ours::fenced_both([ws0, ws1], |ws0, ws1| {
+        let (answer, strayed) = ours::fenced_both([classes, entries], |classes, entries| {
+            ours::check(
+                [source, side, source_roots, map, reads, calls, arguments, target, target_roots],
+                [source_bits, target_bits],
+                [ws0, ws1, classes, entries],
+            )
+        });
+        inner = strayed;
+        answer
+    });
+    (answer, inner || outer)
 }
 
 /// An accepted lowering, with lent lists that fit it or have words to spare.

@@ -53,6 +53,39 @@ extern "C" {
         values: *mut u64,
         values_len: usize,
     ) -> Answer;
+
+    fn gilfrunt_check(
+        source: *const u64,
+        source_len: usize,
+        source_bits: *const u8,
+        source_bits_len: usize,
+        side: *const u64,
+        side_len: usize,
+        source_roots: *const u64,
+        source_roots_len: usize,
+        map: *const u64,
+        map_len: usize,
+        reads: *const u64,
+        reads_len: usize,
+        calls: *const u64,
+        calls_len: usize,
+        arguments: *const u64,
+        arguments_len: usize,
+        target: *const u64,
+        target_len: usize,
+        target_bits: *const u8,
+        target_bits_len: usize,
+        target_roots: *const u64,
+        target_roots_len: usize,
+        source_widths: *mut u64,
+        source_widths_len: usize,
+        target_widths: *mut u64,
+        target_widths_len: usize,
+        classes: *mut u64,
+        classes_len: usize,
+        entries: *mut u64,
+        entries_len: usize,
+    ) -> Answer;
 }
 
 pub fn source_widths(
@@ -122,6 +155,49 @@ pub fn values(
             widths.len(),
             values.as_mut_ptr(),
             values.len(),
+        )
+    }
+}
+
+/// Check over its nine lists of words in the library's order, its two lists of
+/// bits and the four lent lists.
+pub fn check(words: [&mut [u64]; 9], bits: [&mut [u8]; 2], lent: [&mut [u64]; 4]) -> Answer {
+    let [source, side, source_roots, map, reads, calls, arguments, target, target_roots] = words;
+    let [source_bits, target_bits] = bits;
+    let [source_widths, target_widths, classes, entries] = lent;
+    // As above.
+    unsafe {
+        gilfrunt_check(
+            source.as_mut_ptr(),
+            source.len(),
+            source_bits.as_mut_ptr(),
+            source_bits.len(),
+            side.as_mut_ptr(),
+            side.len(),
+            source_roots.as_mut_ptr(),
+            source_roots.len(),
+            map.as_mut_ptr(),
+            map.len(),
+            reads.as_mut_ptr(),
+            reads.len(),
+            calls.as_mut_ptr(),
+            calls.len(),
+            arguments.as_mut_ptr(),
+            arguments.len(),
+            target.as_mut_ptr(),
+            target.len(),
+            target_bits.as_mut_ptr(),
+            target_bits.len(),
+            target_roots.as_mut_ptr(),
+            target_roots.len(),
+            source_widths.as_mut_ptr(),
+            source_widths.len(),
+            target_widths.as_mut_ptr(),
+            target_widths.len(),
+            classes.as_mut_ptr(),
+            classes.len(),
+            entries.as_mut_ptr(),
+            entries.len(),
         )
     }
 }
