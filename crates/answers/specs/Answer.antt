@@ -5,7 +5,7 @@ use mathlib.Core.List.{List, _++_}
 use lib.Dec.{eqb}
 use lib.ListN.{length, replicate}
 use Rattle.answers.specs.declared.Answer.{Answer}
-use Rattle.answers.specs.declared.Answer.the-variants.{Accepted, Ext, Core, MapLength, MapOutOfRange, ReadTable, CallTable, VarClass, ConstMismatch, NodeMismatch, ChainMismatch, CallMismatch, RootMismatch, CongruenceMismatch, DeadEntry, RowCount, BadRow, BadBit, WorkShort, BadRoot, TooWide, ValueCount, ValueRange}
+use Rattle.answers.specs.declared.Answer.the-variants.{Accepted, Ext, Core, MapLength, MapOutOfRange, ReadTable, CallTable, VarClass, ConstMismatch, NodeMismatch, ChainMismatch, CallMismatch, RootMismatch, CongruenceMismatch, DeadEntry, RowCount, BadRow, BadBit, WorkShort, BadRoot, BookShape, TooWide, ValueCount, ValueRange, NoSection}
 use Rattle.answers.specs.declared.Words.{Words}
 
 abbrev pub words : ℕ → ℕ → ℕ → Words
@@ -33,9 +33,11 @@ wordsOf (BadRow row graph) = words 16 row graph
 wordsOf (BadBit position graph) = words 17 position graph
 wordsOf (WorkShort list) = words 18 list 0
 wordsOf (BadRoot position) = words 19 position 0
+wordsOf (BookShape place) = words 20 place 0
 wordsOf (TooWide row) = words 21 row 0
 wordsOf (ValueCount expected found) = words 22 expected found
 wordsOf (ValueRange row) = words 23 row 0
+wordsOf NoSection = words 24 0 0
 
 abbrev pub isAccepted : Answer → Bool
 isAccepted a = eqb (wordsOf a .number) 0

@@ -39,12 +39,15 @@ pub enum Answer {
     WorkShort(u64),
     // position in the root list
     BadRoot(u64),
+    // 0 too short for its contents, a section, 12 bytes left over, 13 too long
+    BookShape(u64),
     // row wider than 64 bits
     TooWide(u64),
     // words expected, words found
     ValueCount(u64, u64),
     // row of a variable
     ValueRange(u64),
+    NoSection,
 }
 
 // An answer as three words.
@@ -159,6 +162,11 @@ pub fn words_of(a: Answer) -> Words
             place: position,
             detail: 0,
         },
+        Answer::BookShape(place) => Words {
+            number: 20,
+            place: place,
+            detail: 0,
+        },
         Answer::TooWide(row) => Words {
             number: 21,
             place: row,
@@ -172,6 +180,11 @@ pub fn words_of(a: Answer) -> Words
         Answer::ValueRange(row) => Words {
             number: 23,
             place: row,
+            detail: 0,
+        },
+        Answer::NoSection => Words {
+            number: 24,
+            place: 0,
             detail: 0,
         },
     }

@@ -72,6 +72,12 @@ enum-known-a-21 c = search needs
 enum-known-a-22 : tie.Need-enum-known-a-22
 enum-known-a-22 c = search needs
 
+enum-known-a-23 : tie.Need-enum-known-a-23
+enum-known-a-23 c = search needs
+
+enum-told-2 : tie.Need-enum-told-2
+enum-told-2 c = search needs
+
 returns : tie.Need-returns
 returns c = rw (c .enum-told .given .1)
 
@@ -141,6 +147,12 @@ returns-22 c = rw (c .before .a21 .given .1)
 returns-23 : tie.Need-returns-23
 returns-23 c = rw (c .before .a22 .given .1)
 
+returns-24 : tie.Need-returns-24
+returns-24 c = rw (c .before .a23 .given .1)
+
+returns-25 : tie.Need-returns-25
+returns-25 c = rw (c .enum-told2 .given .1)
+
 pub words-of-spec : {M : Type 1} → statement M
 words-of-spec =
     tie.close
@@ -168,6 +180,8 @@ words-of-spec =
     enum-known-a-20
     enum-known-a-21
     enum-known-a-22
+    enum-known-a-23
+    enum-told-2
     returns
     returns-2
     returns-3
@@ -190,4 +204,6 @@ words-of-spec =
     returns-20
     returns-21
     returns-22
-    returns-23)
+    returns-23
+    returns-24
+    returns-25)
