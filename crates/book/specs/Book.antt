@@ -1,0 +1,70 @@
+-- Books and their sections (01, 'Section of a book'). Assumes nothing.
+use Prim.Native.Nat.{ℕ, zero, suc, _+_, _-_, _*_, _%_}
+use mathlib.Core.Bool.{Bool, true, false, not, cond}
+use mathlib.Core.List.{List, []}
+use lib.Dec.{eqb, ltb}
+use lib.ListN.{length, getD, take, drop}
+use Rattle.answers.specs.declared.Answer.{Answer}
+use Rattle.answers.specs.declared.Answer.the-variants.{Accepted, BookShape, NoSection}
+use Rattle.answers.specs.Answer.{isAccepted}
+use Rattle.lists.specs.First.{first}
+
+-- "A book is little-endian": the word whose lowest byte stands at a place
+abbrev pub wordAt : List ℕ → ℕ → ℕ
+wordAt b at =
+    getD b at 0
+    + 256 * (getD b (at + 1) 0 + 256 * (getD b (at + 2) 0 + 256 * (getD b (at + 3) 0 + 256 * (getD b (at + 4) 0
+    + 256 * (getD b (at + 5) 0 + 256 * (getD b (at + 6) 0 + 256 * getD b (at + 7) 0))))))
+
+-- "a table of contents of eleven entries, each start and length in bytes, one word each"; entry i is section i + 1's
+abbrev pub sections : ℕ
+sections = 11
+
+abbrev pub contents : ℕ
+contents = 16 * sections
+
+abbrev pub startOf : List ℕ → ℕ → ℕ
+startOf b i = wordAt b (16 * i)
+
+abbrev pub lengthOf : List ℕ → ℕ → ℕ
+lengthOf b i = wordAt b (16 * i + 8)
+
+abbrev pub endOf : List ℕ → ℕ → ℕ
+endOf b i = startOf b i + lengthOf b i
+
+-- "the first at 176, without gaps": where section i + 1 must start, and for i = sections where the book must end
+abbrev pub dueAt : List ℕ → ℕ → ℕ
+dueAt b zero = contents
+dueAt b (suc i) = endOf b i
+
+-- "2 and 10, the bits"
+abbrev pub isBits : ℕ → Bool
+isBits i = cond (eqb i 1) true (eqb i 9)
+
+-- "section that doesn't start where the last ended, runs past the end, or (all but 2 and 10, the bits) isn't whole words"
+abbrev pub badSection : List ℕ → ℕ → Bool
+badSection b i =
+    cond (not (eqb (startOf b i) (dueAt b i))) true
+    (cond (ltb (length b) (endOf b i)) true (cond (isBits i) false (not (eqb (lengthOf b i % 8) 0))))
+
+abbrev pub firstBad : List ℕ → ℕ
+firstBad b = first (badSection b) sections
+
+-- "20's place: 0 under 176 bytes; the first section that ..; 12 for bytes left over"
+abbrev pub bookAnswer : List ℕ → Answer
+bookAnswer b =
+    cond (ltb (length b) contents) (BookShape 0)
+    (cond (ltb (firstBad b) sections) (BookShape (firstBad b + 1))
+    (cond (eqb (dueAt b sections) (length b)) Accepted (BookShape (sections + 1))))
+
+-- "24 NoSection for a number outside 1 to 11; then 20 BookShape"
+abbrev pub sectionAnswer : List ℕ → ℕ → Answer
+sectionAnswer b number = cond (eqb number 0) NoSection (cond (ltb sections number) NoSection (bookAnswer b))
+
+-- "The answer is that stretch of the caller's book": section i + 1
+abbrev pub body : List ℕ → ℕ → List ℕ
+body b i = take (lengthOf b i) (drop (startOf b i) b)
+
+-- "A refusal gives an empty stretch"
+abbrev pub section : List ℕ → ℕ → List ℕ
+section b number = cond (isAccepted (sectionAnswer b number)) (body b (number - 1)) []

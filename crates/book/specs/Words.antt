@@ -1,0 +1,26 @@
+-- The lists of words that a book holds, and all of them in one list. Assumes nothing.
+use Prim.Native.Nat.{ℕ, zero, suc, _*_, _/_}
+use mathlib.Core.Path.{_≡_}
+use mathlib.Core.Bool.{true, cond}
+use mathlib.Core.List.{List, [], _++_}
+use lib.ListN.{length}
+use Rattle.answers.specs.Answer.{isAccepted}
+use Rattle.lists.specs.Build.{build}
+use Rattle.book.specs.Book.{wordAt, isBits, body, bookAnswer}
+
+-- bytes as words, "little-endian"
+abbrev pub wordsOf : List ℕ → List ℕ
+wordsOf bytes = build (λ j before. wordAt bytes (8 * j)) (length bytes / 8)
+
+-- the words of section i + 1; "2 and 10, the bits" are bytes and have none
+abbrev pub listOf : List ℕ → ℕ → List ℕ
+listOf b i = cond (isBits i) [] (wordsOf (body b i))
+
+-- the words of the first n sections, one after the other
+unfoldable pub loaded : List ℕ → ℕ → List ℕ
+loaded b zero = []
+loaded b (suc i) = loaded b i ++ listOf b i
+
+-- a book of good shape
+abbrev pub Good : List ℕ → Type 0
+Good b = isAccepted (bookAnswer b) ≡ true
