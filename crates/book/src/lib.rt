@@ -9,7 +9,7 @@ ghost use Rattle.book.specs.Book.{wordAt, sections, contents, startOf, l
 ghost use Rattle.book.specs.Words.{wordsOf, listOf, loaded, Good};
 use answers::Answer;
 
-const SECTIONS: usize = 11;
+pub const SECTIONS: usize = 11;
 
 const CONTENTS: usize = 176;
 
@@ -145,7 +145,7 @@ pub fn section_answer(book: &[u8], number: u64) -> Answer
 }
 
 // The stretch of section i + 1.
-fn body(book: &[u8], i: usize) -> &[u8]
+pub fn body(book: &[u8], i: usize) -> &[u8]
     requires { ⌜ (i < sections) × Good (now book) ⌝ }
     ensures stretch { λ r. ⌜ now r ≡ body (now (book .entry)) i ⌝ }
 {
@@ -178,7 +178,7 @@ fn read_words(bytes: &[u8], out: &mut [u64])
 }
 
 // How many words section i + 1 has.
-fn word_count(book: &[u8], i: usize) -> usize
+pub fn word_count(book: &[u8], i: usize) -> usize
     requires { ⌜ (i < sections) × Good (now book) ⌝ }
     ensures count { λ r. ⌜ r ≡ length (listOf (now (book .entry)) i) ⌝ }
 {

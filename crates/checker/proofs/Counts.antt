@@ -1,44 +1,47 @@
 -- The answer to the counts of words, refusal by refusal. Assumes nothing.
-use Prim.Native.Nat.{ℕ, _<_, _≤_}
+use Prim.Native.Nat.{ℕ, _/_, _%_, _<_, _≤_}
 use mathlib.Core.Path.{_≡_}
-use mathlib.Core.Bool.{true, false}
 use mathlib.Core.List.{List}
-use borrow.Author.Tests.{lt-ltb, le-ltb}
+use borrow.Author.Tests.{eq-eqb, ne-eqb, lt-ltb, le-ltb}
+use lib.ListN.{length}
+use Rattle.answers.specs.declared.Answer.{Answer}
 use Rattle.answers.specs.declared.Answer.the-variants.{Accepted, RowCount, WorkShort}
-use Rattle.rows.specs.declared.Graph.the-variants.{Source, Target}
-use Rattle.rows.specs.Row.{rowCount, ragged}
 use Rattle.lowering.specs.Check.{firstRefusal, countAnswers}
 
-module _ (s t : List ℕ) (w0 w1 c e : ℕ) where
-  pub count-source : ragged Source s ≡ true → firstRefusal (countAnswers s t w0 w1 c e) ≡ RowCount 1
+-- a source and a target of n and m words
+module _ (n m w0 w1 c e : ℕ) (s t : List ℕ) (en : length s ≡ n) (em : length t ≡ m) where
+  abbrev answer : Answer
+  answer = firstRefusal (countAnswers s t w0 w1 c e)
+
+  pub count-source : (n % 5 ≡ 0 → ⊥) → RowCount 1 ≡ answer
   unfolding firstRefusal
-  count-source a = rw a
+  count-source a = rw (en, ne-eqb _ _ a)
 
-  module _ (a : ragged Source s ≡ false) where
-    pub count-target : ragged Target t ≡ true → firstRefusal (countAnswers s t w0 w1 c e) ≡ RowCount 2
+  module _ (a : n % 5 ≡ 0) where
+    pub count-target : (m % 4 ≡ 0 → ⊥) → RowCount 2 ≡ answer
     unfolding firstRefusal
-    count-target b = rw (a, b)
+    count-target b = rw (en, em, eq-eqb _ _ a, ne-eqb _ _ b)
 
-    module _ (b : ragged Target t ≡ false) where
-      pub short-1 : w0 < rowCount Source s → firstRefusal (countAnswers s t w0 w1 c e) ≡ WorkShort 1
+    module _ (b : m % 4 ≡ 0) where
+      pub short-1 : w0 < n / 5 → WorkShort 1 ≡ answer
       unfolding firstRefusal
-      short-1 h = rw (a, b, lt-ltb _ _ h)
+      short-1 h = rw (en, em, eq-eqb _ _ a, eq-eqb _ _ b, lt-ltb _ _ h)
 
-      module _ (r0 : rowCount Source s ≤ w0) where
-        pub short-2 : w1 < rowCount Target t → firstRefusal (countAnswers s t w0 w1 c e) ≡ WorkShort 2
+      module _ (r0 : n / 5 ≤ w0) where
+        pub short-2 : w1 < m / 4 → WorkShort 2 ≡ answer
         unfolding firstRefusal
-        short-2 h = rw (a, b, le-ltb _ _ r0, lt-ltb _ _ h)
+        short-2 h = rw (en, em, eq-eqb _ _ a, eq-eqb _ _ b, le-ltb _ _ r0, lt-ltb _ _ h)
 
-        module _ (r1 : rowCount Target t ≤ w1) where
-          pub short-3 : c < rowCount Target t → firstRefusal (countAnswers s t w0 w1 c e) ≡ WorkShort 3
+        module _ (r1 : m / 4 ≤ w1) where
+          pub short-3 : c < m / 4 → WorkShort 3 ≡ answer
           unfolding firstRefusal
-          short-3 h = rw (a, b, le-ltb _ _ r0, le-ltb _ _ r1, lt-ltb _ _ h)
+          short-3 h = rw (en, em, eq-eqb _ _ a, eq-eqb _ _ b, le-ltb _ _ r0, le-ltb _ _ r1, lt-ltb _ _ h)
 
-          module _ (r2 : rowCount Target t ≤ c) where
-            pub short-4 : e < rowCount Target t → firstRefusal (countAnswers s t w0 w1 c e) ≡ WorkShort 4
+          module _ (r2 : m / 4 ≤ c) where
+            pub short-4 : e < m / 4 → WorkShort 4 ≡ answer
             unfolding firstRefusal
-            short-4 h = rw (a, b, le-ltb _ _ r0, le-ltb _ _ r1, le-ltb _ _ r2, lt-ltb _ _ h)
+            short-4 h = rw (en, em, eq-eqb _ _ a, eq-eqb _ _ b, le-ltb _ _ r0, le-ltb _ _ r1, le-ltb _ _ r2, lt-ltb _ _ h)
 
-            pub count-good : rowCount Target t ≤ e → firstRefusal (countAnswers s t w0 w1 c e) ≡ Accepted
+            pub count-good : m / 4 ≤ e → Accepted ≡ answer
             unfolding firstRefusal
-            count-good r3 = rw (a, b, le-ltb _ _ r0, le-ltb _ _ r1, le-ltb _ _ r2, le-ltb _ _ r3)
+            count-good r3 = rw (en, em, eq-eqb _ _ a, eq-eqb _ _ b, le-ltb _ _ r0, le-ltb _ _ r1, le-ltb _ _ r2, le-ltb _ _ r3)

@@ -1,7 +1,7 @@
 // The operation Check.
 ghost use mathlib.Core.Path.{_≡_};
 ghost use mathlib.Core.Bool.{true, false};
-ghost use mathlib.Core.List.{[], _++_};
+ghost use mathlib.Core.List.{List, [], _++_};
 ghost use Prim.Native.Nat.{ℕ, _-_, _<_, _≤_};
 ghost use lib.ListN.{length, drop, replicate};
 ghost use Rattle.answers.specs.Answer.{isAccepted};
@@ -17,20 +17,27 @@ ghost use Rattle.images.specs.Bits.{ConstsWithin};
 use answers::Answer;
 use rows::Graph;
 
-// 15 and 18, with room for some words in each of the four lists.
-fn count_answer(source: &[u64], target: &[u64], w0: usize, w1: usize, c: usize, e: usize) -> Answer
-    ensures answer { λ r. ⌜ r ≡ firstRefusal (countAnswers (now (source .entry)) (now (target .entry)) w0 w1 c e) ⌝ }
+// 15 and 18 of graphs of so many words, with room for some words in each of the four lists.
+pub fn count_answer(
+    source: usize,
+    target: usize,
+    w0: usize,
+    w1: usize,
+    c: usize,
+    e: usize,
+) -> Answer
+    ensures answer { λ r. ⌜ ((s t : List ℕ) → length s ≡ source → length t ≡ target → r ≡ firstRefusal (countAnswers s t w0 w1 c e)) ⌝ }
 {
-    if rows::is_ragged(Graph::Source, source) {
+    if source % 5 != 0 {
         return Answer::RowCount(1);
     }
-    if rows::is_ragged(Graph::Target, target) {
+    if target % 4 != 0 {
         return Answer::RowCount(2);
     }
-    if w0 < rows::row_count(Graph::Source, source) {
+    if w0 < source / 5 {
         return Answer::WorkShort(1);
     }
-    let n = rows::row_count(Graph::Target, target);
+    let n = target / 4;
     if w1 < n {
         return Answer::WorkShort(2);
     }
@@ -307,7 +314,14 @@ pub fn check(
 ) -> Answer
     ensures outcome { λ r. ⌜ outcome r (now (ws0 .exit)) (now (ws1 .exit)) (now (cls .exit)) (now (ent .exit)) ≡ check (lowering (now (source .entry)) (now (ebits .entry)) (now (eside .entry)) (now (eroots .entry)) (now (map .entry)) (now (reads .entry)) (now (calls .entry)) (now (cargs .entry)) (now (target .entry)) (now (tbits .entry)) (now (troots .entry))) (now (ws0 .entry)) (now (ws1 .entry)) (now (cls .entry)) (now (ent .entry)) ⌝ }
 {
-    let a = count_answer(source, target, ws0.len(), ws1.len(), cls.len(), ent.len());
+    let a = count_answer(
+        source.len(),
+        target.len(),
+        ws0.len(),
+        ws1.len(),
+        cls.len(),
+        ent.len(),
+    );
     if !answers::is_accepted(a) {
         return a;
     }

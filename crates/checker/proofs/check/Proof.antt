@@ -1,5 +1,5 @@
 -- `checker::check` meets its contract. Assumes nothing.
-use mathlib.Core.Path.{sym, _∙_}
+use mathlib.Core.Path.{refl, sym, _∙_}
 use mathlib.Core.List.{[]}
 use borrow.Author.Tests.{not-true, not-false}
 use lib.ListN.{length}
@@ -21,13 +21,13 @@ returns : tie.Need-returns
 returns c =
     let s = c .before .before .before .before .before .before .before .before .before .before .before .before .before .before .before .before .before .before .args in
     let L = lowering (s .source .now) (s .ebits .now) (s .eside .now) (s .eroots .now) (s .map .now) (s .reads .now) (s .calls .now) (s .cargs .now) (s .target .now) (s .tbits .now) (s .troots .now) in
-    count-done L (s .ws0 .now) (s .ws1 .now) (s .cls .now) (s .ent .now) _ (c .before .before .count-answer .ensures) (sym (c .before .is-accepted .ensures) ∙ not-true _ (c .if1 .taken))
+    count-done L (s .ws0 .now) (s .ws1 .now) (s .cls .now) (s .ent .now) _ (c .before .before .count-answer .ensures (s .source .now) (s .target .now) refl refl) (sym (c .before .is-accepted .ensures) ∙ not-true _ (c .if1 .taken))
 
 graphs-requires : tie.Need-graphs-requires
 graphs-requires c κs =
     let s = c .before .before .before .before .before .before .before .before .before .before .before .before .before .before .before .before .before .before .before .before .args in
     let L = lowering (s .source .now) (s .ebits .now) (s .eside .now) (s .eroots .now) (s .map .now) (s .reads .now) (s .calls .now) (s .cargs .now) (s .target .now) (s .tbits .now) (s .troots .now) in
-    let c1 = rw (c .before .before .before .before .count-answer .ensures) at (sym (c .before .before .before .is-accepted .ensures) ∙ not-false _ (c .before .before .if1 .left)) in
+    let c1 = rw (c .before .before .before .before .count-answer .ensures (s .source .now) (s .target .now) refl refl) at (sym (c .before .before .before .is-accepted .ensures) ∙ not-false _ (c .before .before .if1 .left)) in
     (room-0 L (s .ws0 .now) (s .ws1 .now) (s .cls .now) (s .ent .now) c1, room-1 L (s .ws0 .now) (s .ws1 .now) (s .cls .now) (s .ent .now) c1)
 
 is-accepted-requires-2 : tie.Need-is-accepted-requires-2
@@ -52,7 +52,7 @@ returns-2 : tie.Need-returns-2
 returns-2 c =
     let s = c .before .before .before .before .before .before .before .before .before .before .before .before .before .before .before .before .before .before .before .before .before .before .before .before .before .before .before .before .before .before .before .before .before .before .before .before .before .before .before .before .args in
     let L = lowering (s .source .now) (s .ebits .now) (s .eside .now) (s .eroots .now) (s .map .now) (s .reads .now) (s .calls .now) (s .cargs .now) (s .target .now) (s .tbits .now) (s .troots .now) in
-    let c1 = rw (c .before .before .before .before .before .before .before .before .before .before .before .before .before .before .before .before .before .before .before .before .before .before .before .before .count-answer .ensures) at (sym (c .before .before .before .before .before .before .before .before .before .before .before .before .before .before .before .before .before .before .before .before .before .before .before .is-accepted .ensures) ∙ not-false _ (c .before .before .before .before .before .before .before .before .before .before .before .before .before .before .before .before .before .before .before .before .before .before .if1 .left)) in
+    let c1 = rw (c .before .before .before .before .before .before .before .before .before .before .before .before .before .before .before .before .before .before .before .before .before .before .before .before .count-answer .ensures (s .source .now) (s .target .now) refl refl) at (sym (c .before .before .before .before .before .before .before .before .before .before .before .before .before .before .before .before .before .before .before .before .before .before .before .is-accepted .ensures) ∙ not-false _ (c .before .before .before .before .before .before .before .before .before .before .before .before .before .before .before .before .before .before .before .before .before .before .if1 .left)) in
     let z = c .before .before .before .before .before .before .before .before .clear-all .ensures in
     let k = c .before .before .before .before .before .before .before .before .before .before .before .before .before .before .before .before .before .before .before .graphs in
     by-lists _ _ _ _ _ _ _ _ _ _ (zeros-long _ (length (s .ws0 .now)) _ (z .0) (k .kept .1 .1 .1 .1 .1 .0)) (zeros-long _ (length (s .ws1 .now)) _ (z .1 .0) (k .kept .1 .1 .1 .1 .1 .1 .0)) (z .1 .1 .0) (z .1 .1 .1) (graph-done L (s .ws0 .now) (s .ws1 .now) (s .cls .now) (s .ent .now) _ c1 (k .ensures .0) (sym (c .before .before .before .before .before .before .before .before .before .before .before .before .before .before .is-accepted2 .ensures) ∙ not-true _ (c .before .before .before .before .before .before .before .before .before .before .before .before .before .if2 .taken)))
@@ -64,21 +64,21 @@ slice-reshare-prefix-lowered : tie.Need-slice-reshare-prefix-lowered
 slice-reshare-prefix-lowered c =
     let s = c .before .before .before .before .before .before .before .before .before .before .before .before .before .before .before .before .before .before .before .before .before .before .before .before .before .before .before .before .args in
     let L = lowering (s .source .now) (s .ebits .now) (s .eside .now) (s .eroots .now) (s .map .now) (s .reads .now) (s .calls .now) (s .cargs .now) (s .target .now) (s .tbits .now) (s .troots .now) in
-    let c1 = rw (c .before .before .before .before .before .before .before .before .before .before .before .before .count-answer .ensures) at (sym (c .before .before .before .before .before .before .before .before .before .before .before .is-accepted .ensures) ∙ not-false _ (c .before .before .before .before .before .before .before .before .before .before .if1 .left)) in
+    let c1 = rw (c .before .before .before .before .before .before .before .before .before .before .before .before .count-answer .ensures (s .source .now) (s .target .now) refl refl) at (sym (c .before .before .before .before .before .before .before .before .before .before .before .is-accepted .ensures) ∙ not-false _ (c .before .before .before .before .before .before .before .before .before .before .if1 .left)) in
     rw (c .row-count .ensures, c .before .before .before .before .before .before .before .graphs .kept .1 .1 .1 .1 .1 .1 .0) (room-1 L (s .ws0 .now) (s .ws1 .now) (s .cls .now) (s .ent .now) c1)
 
 slice-aggregate-lowered : tie.Need-slice-aggregate-lowered
 slice-aggregate-lowered c =
     let s = c .before .before .before .before .before .before .before .before .before .before .before .before .before .before .before .before .before .before .before .before .before .before .before .before .before .before .before .before .before .args in
     let L = lowering (s .source .now) (s .ebits .now) (s .eside .now) (s .eroots .now) (s .map .now) (s .reads .now) (s .calls .now) (s .cargs .now) (s .target .now) (s .tbits .now) (s .troots .now) in
-    let c1 = rw (c .before .before .before .before .before .before .before .before .before .before .before .before .before .count-answer .ensures) at (sym (c .before .before .before .before .before .before .before .before .before .before .before .before .is-accepted .ensures) ∙ not-false _ (c .before .before .before .before .before .before .before .before .before .before .before .if1 .left)) in
+    let c1 = rw (c .before .before .before .before .before .before .before .before .before .before .before .before .before .count-answer .ensures (s .source .now) (s .target .now) refl refl) at (sym (c .before .before .before .before .before .before .before .before .before .before .before .before .is-accepted .ensures) ∙ not-false _ (c .before .before .before .before .before .before .before .before .before .before .before .if1 .left)) in
     sym (length-take-le _ _ (rw (c .before .row-count .ensures, c .before .before .before .before .before .before .before .before .graphs .kept .1 .1 .1 .1 .1 .1 .0) (room-1 L (s .ws0 .now) (s .ws1 .now) (s .cls .now) (s .ent .now) c1)))
 
 lowered-requires : tie.Need-lowered-requires
 lowered-requires c κs =
     let s = c .before .before .before .before .before .before .before .before .before .before .before .before .before .before .before .before .before .before .before .before .before .before .before .before .before .before .before .before .before .before .before .args in
     let L = lowering (s .source .now) (s .ebits .now) (s .eside .now) (s .eroots .now) (s .map .now) (s .reads .now) (s .calls .now) (s .cargs .now) (s .target .now) (s .tbits .now) (s .troots .now) in
-    let c1 = rw (c .before .before .before .before .before .before .before .before .before .before .before .before .before .before .before .count-answer .ensures) at (sym (c .before .before .before .before .before .before .before .before .before .before .before .before .before .before .is-accepted .ensures) ∙ not-false _ (c .before .before .before .before .before .before .before .before .before .before .before .before .before .if1 .left)) in
+    let c1 = rw (c .before .before .before .before .before .before .before .before .before .before .before .before .before .before .before .count-answer .ensures (s .source .now) (s .target .now) refl refl) at (sym (c .before .before .before .before .before .before .before .before .before .before .before .before .before .before .is-accepted .ensures) ∙ not-false _ (c .before .before .before .before .before .before .before .before .before .before .before .before .before .if1 .left)) in
     let ok = sym (c .before .before .before .before .before .is-accepted2 .ensures) ∙ not-false _ (c .before .before .before .before .if2 .left) in
     let g1 = rw (c .before .before .before .before .before .before .before .before .before .before .graphs .ensures .0) at ok in
     (forms-formed L (s .ws0 .now) (s .ws1 .now) (s .cls .now) (s .ent .now) g1, (widths-front Target (length (s .tbits .now)) _ [] (s .target .now) _ _ (c .before .before .before .row-count .ensures) (c .before .before .before .before .before .before .before .before .before .before .graphs .ensures .1 .1 ok), (room-2 L (s .ws0 .now) (s .ws1 .now) (s .cls .now) (s .ent .now) c1, room-3 L (s .ws0 .now) (s .ws1 .now) (s .cls .now) (s .ent .now) c1)))
@@ -105,7 +105,7 @@ returns-3 : tie.Need-returns-3
 returns-3 c =
     let s = c .before .before .before .before .before .before .before .before .before .before .before .before .before .before .before .before .before .before .before .before .before .before .before .before .before .before .before .before .before .before .before .before .before .before .before .before .before .before .before .before .before .before .before .before .before .before .before .before .before .before .before .args in
     let L = lowering (s .source .now) (s .ebits .now) (s .eside .now) (s .eroots .now) (s .map .now) (s .reads .now) (s .calls .now) (s .cargs .now) (s .target .now) (s .tbits .now) (s .troots .now) in
-    let c1 = rw (c .before .before .before .before .before .before .before .before .before .before .before .before .before .before .before .before .before .before .before .before .before .before .before .before .before .before .before .before .before .before .before .before .before .before .before .count-answer .ensures) at (sym (c .before .before .before .before .before .before .before .before .before .before .before .before .before .before .before .before .before .before .before .before .before .before .before .before .before .before .before .before .before .before .before .before .before .before .is-accepted .ensures) ∙ not-false _ (c .before .before .before .before .before .before .before .before .before .before .before .before .before .before .before .before .before .before .before .before .before .before .before .before .before .before .before .before .before .before .before .before .before .if1 .left)) in
+    let c1 = rw (c .before .before .before .before .before .before .before .before .before .before .before .before .before .before .before .before .before .before .before .before .before .before .before .before .before .before .before .before .before .before .before .before .before .before .before .count-answer .ensures (s .source .now) (s .target .now) refl refl) at (sym (c .before .before .before .before .before .before .before .before .before .before .before .before .before .before .before .before .before .before .before .before .before .before .before .before .before .before .before .before .before .before .before .before .before .before .is-accepted .ensures) ∙ not-false _ (c .before .before .before .before .before .before .before .before .before .before .before .before .before .before .before .before .before .before .before .before .before .before .before .before .before .before .before .before .before .before .before .before .before .if1 .left)) in
     let ok = sym (c .before .before .before .before .before .before .before .before .before .before .before .before .before .before .before .before .before .before .before .before .before .before .before .before .before .is-accepted2 .ensures) ∙ not-false _ (c .before .before .before .before .before .before .before .before .before .before .before .before .before .before .before .before .before .before .before .before .before .before .before .before .if2 .left) in
     let g1 = rw (c .before .before .before .before .before .before .before .before .before .before .before .before .before .before .before .before .before .before .before .before .before .before .before .before .before .before .before .before .before .before .graphs .ensures .0) at ok in
     let z = c .before .before .before .before .before .before .before .before .clear-all2 .ensures in
@@ -120,14 +120,14 @@ clear-from-requires : tie.Need-clear-from-requires
 clear-from-requires c κs =
     let s = c .before .before .before .before .before .before .before .before .before .before .before .before .before .before .before .before .before .before .before .before .before .before .before .before .before .before .before .before .before .before .before .before .before .before .before .before .before .before .before .before .args in
     let L = lowering (s .source .now) (s .ebits .now) (s .eside .now) (s .eroots .now) (s .map .now) (s .reads .now) (s .calls .now) (s .cargs .now) (s .target .now) (s .tbits .now) (s .troots .now) in
-    let c1 = rw (c .before .before .before .before .before .before .before .before .before .before .before .before .before .before .before .before .before .before .before .before .before .before .before .before .count-answer .ensures) at (sym (c .before .before .before .before .before .before .before .before .before .before .before .before .before .before .before .before .before .before .before .before .before .before .before .is-accepted .ensures) ∙ not-false _ (c .before .before .before .before .before .before .before .before .before .before .before .before .before .before .before .before .before .before .before .before .before .before .if1 .left)) in
+    let c1 = rw (c .before .before .before .before .before .before .before .before .before .before .before .before .before .before .before .before .before .before .before .before .before .before .before .before .count-answer .ensures (s .source .now) (s .target .now) refl refl) at (sym (c .before .before .before .before .before .before .before .before .before .before .before .before .before .before .before .before .before .before .before .before .before .before .before .is-accepted .ensures) ∙ not-false _ (c .before .before .before .before .before .before .before .before .before .before .before .before .before .before .before .before .before .before .before .before .before .before .if1 .left)) in
     rw (c .row-count2 .ensures, c .before .before .before .before .before .before .before .before .before .before .before .before .before .before .before .before .before .before .before .graphs .kept .1 .1 .1 .1 .1 .0) (room-0 L (s .ws0 .now) (s .ws1 .now) (s .cls .now) (s .ent .now) c1)
 
 clear-from-requires-2 : tie.Need-clear-from-requires-2
 clear-from-requires-2 c κs =
     let s = c .before .before .before .before .before .before .before .before .before .before .before .before .before .before .before .before .before .before .before .before .before .before .before .before .before .before .before .before .before .before .before .before .before .before .before .before .before .before .before .before .before .before .before .before .args in
     let L = lowering (s .source .now) (s .ebits .now) (s .eside .now) (s .eroots .now) (s .map .now) (s .reads .now) (s .calls .now) (s .cargs .now) (s .target .now) (s .tbits .now) (s .troots .now) in
-    let c1 = rw (c .before .before .before .before .before .before .before .before .before .before .before .before .before .before .before .before .before .before .before .before .before .before .before .before .before .before .before .before .count-answer .ensures) at (sym (c .before .before .before .before .before .before .before .before .before .before .before .before .before .before .before .before .before .before .before .before .before .before .before .before .before .before .before .is-accepted .ensures) ∙ not-false _ (c .before .before .before .before .before .before .before .before .before .before .before .before .before .before .before .before .before .before .before .before .before .before .before .before .before .before .if1 .left)) in
+    let c1 = rw (c .before .before .before .before .before .before .before .before .before .before .before .before .before .before .before .before .before .before .before .before .before .before .before .before .before .before .before .before .count-answer .ensures (s .source .now) (s .target .now) refl refl) at (sym (c .before .before .before .before .before .before .before .before .before .before .before .before .before .before .before .before .before .before .before .before .before .before .before .before .before .before .before .is-accepted .ensures) ∙ not-false _ (c .before .before .before .before .before .before .before .before .before .before .before .before .before .before .before .before .before .before .before .before .before .before .before .before .before .before .if1 .left)) in
     rw (c .before .before .before .before .before .before .before .before .before .before .before .before .before .before .before .before .row-count .ensures, c .before .before .before .before .before .before .before .before .before .before .before .before .before .before .before .before .before .before .before .before .before .before .before .graphs .kept .1 .1 .1 .1 .1 .1 .0) (room-1 L (s .ws0 .now) (s .ws1 .now) (s .cls .now) (s .ent .now) c1)
 
 same-length-9 : tie.Need-same-length-9
@@ -146,7 +146,7 @@ returns-4 : tie.Need-returns-4
 returns-4 c =
     let s = c .before .before .before .before .before .before .before .before .before .before .before .before .before .before .before .before .before .before .before .before .before .before .before .before .before .before .before .before .before .before .before .before .before .before .before .before .before .before .before .before .before .before .before .before .before .before .before .args in
     let L = lowering (s .source .now) (s .ebits .now) (s .eside .now) (s .eroots .now) (s .map .now) (s .reads .now) (s .calls .now) (s .cargs .now) (s .target .now) (s .tbits .now) (s .troots .now) in
-    let c1 = rw (c .before .before .before .before .before .before .before .before .before .before .before .before .before .before .before .before .before .before .before .before .before .before .before .before .before .before .before .before .before .before .before .count-answer .ensures) at (sym (c .before .before .before .before .before .before .before .before .before .before .before .before .before .before .before .before .before .before .before .before .before .before .before .before .before .before .before .before .before .before .is-accepted .ensures) ∙ not-false _ (c .before .before .before .before .before .before .before .before .before .before .before .before .before .before .before .before .before .before .before .before .before .before .before .before .before .before .before .before .before .if1 .left)) in
+    let c1 = rw (c .before .before .before .before .before .before .before .before .before .before .before .before .before .before .before .before .before .before .before .before .before .before .before .before .before .before .before .before .before .before .before .count-answer .ensures (s .source .now) (s .target .now) refl refl) at (sym (c .before .before .before .before .before .before .before .before .before .before .before .before .before .before .before .before .before .before .before .before .before .before .before .before .before .before .before .before .before .before .is-accepted .ensures) ∙ not-false _ (c .before .before .before .before .before .before .before .before .before .before .before .before .before .before .before .before .before .before .before .before .before .before .before .before .before .before .before .before .before .if1 .left)) in
     let ok = sym (c .before .before .before .before .before .before .before .before .before .before .before .before .before .before .before .before .before .before .before .before .before .is-accepted2 .ensures) ∙ not-false _ (c .before .before .before .before .before .before .before .before .before .before .before .before .before .before .before .before .before .before .before .before .if2 .left) in
     let g1 = rw (c .before .before .before .before .before .before .before .before .before .before .before .before .before .before .before .before .before .before .before .before .before .before .before .before .before .before .graphs .ensures .0) at ok in
     let k = c .before .before .before .before .before .before .before .before .before .before .before .before .before .before .before .before .before .before .before .before .before .before .before .before .before .before .graphs in
