@@ -1,0 +1,399 @@
+"""What an answer of verdict means, and the part of the book that it names.
+
+Unproved; see graph.py. The answer is verdict's. The reasons given beside it are
+worked out here, after the scope's rules, for a reader's help.
+"""
+
+from itertools import combinations
+from typing import NamedTuple, Optional
+
+from graph import CORE_TAGS, MAX, TAGS, bits_text, fill, tag_of, word_text, words_text
+from listing import BITS, CALL, CONTENTS, READ, SECTIONS, Book, decode, entry_text, unpack
+
+LIMIT = 65536  # bytes that verdict reads
+
+
+def counted(count, what):
+    return f"{count} {what}" + ("" if count == 1 else "s")
+
+
+# Rows and entries, a line each
+
+def row_line(graph, row):
+    if row >= len(graph.rows):
+        return (f"{graph.name} row {word_text(row)}: there is none, "
+                f"the {graph.name} has {counted(len(graph.rows), 'row')}")
+    return f"{graph.name} row {row}: {graph.text(row)} ({graph.note(row)})"
+
+
+def image_lines(book, row):
+    """A source row and its image."""
+    image = book.image(row)
+    shown = "it has no image" if image == MAX else "its image, " + row_line(book.target, image)
+    return [row_line(book.source, row), shown]
+
+
+class Entry(NamedTuple):
+    """A whole entry of the read table or the call table."""
+
+    line: str
+    variable: int
+    key: tuple  # array or function, and the target rows it is applied to
+    constant: Optional[bytes] = None  # of a read's index
+
+
+def table(name, form, words):
+    """The entries of a table, each as a line and its words; the last may be cut."""
+    size = form.count("#")
+    cut = [words[at:at + size] for at in range(0, len(words), size)]
+    return [(f"{name} entry {k}: {entry_text(form, entry)}", entry)
+            for k, entry in enumerate(cut)]
+
+
+def reads(book):
+    return [Entry(line, words[0], (words[1], words[2:]), book.target.constant(words[2]))
+            for line, words in table("read", READ, book.reads) if len(words) == 3]
+
+
+def calls(book):
+    return [Entry(line, words[0], (words[1], book.arguments[words[2]:words[2] + words[3]]))
+            for line, words in table("call", CALL, book.calls) if len(words) == 4]
+
+
+def owned(entries, variable):
+    return [entry.line for entry in entries if entry.variable == variable]
+
+
+def keyed(entries, key):
+    return [entry.line for entry in entries if entry.key == key]
+
+
+# Graphs: 15, 16, 17, 1, 2
+
+def graph_of(book, which):
+    return book.source if which == 1 else book.target
+
+
+def row_count(book, place, detail):
+    graph = graph_of(book, place)
+    count = sum(map(len, graph.rows))
+    return [f"the {graph.name} has {count} words, which is no multiple of {graph.size}"]
+
+
+def bad_row(book, place, detail):
+    graph = graph_of(book, detail)
+    lines = [row_line(graph, place)]
+    tag = graph.rows[place][0] if place < len(graph.rows) else MAX
+    if tag >= (len(TAGS) if detail == 1 else CORE_TAGS):
+        return lines + [f"{word_text(tag)} is no tag of a {graph.name} row"]
+    used = counted(TAGS[tag].shape.form.count("#"), "field")
+    return lines + [f"tag {tag}, {TAGS[tag].name}, has {used}; the others must be 0"]
+
+
+def bad_bit(book, place, detail):
+    graph = graph_of(book, detail)
+    return [f"{graph.name} bits, position {place}: {words_text(graph.bits[place:place + 1])}"]
+
+
+def ill_formed(graph, place):
+    lines = [row_line(graph, place)]
+    tag = tag_of(graph.rows[place], graph.size) if place < len(graph.rows) else None
+    if tag is None:
+        return lines
+    fields = graph.rows[place][1:]
+    lines += [f"{tag.name} needs {tag.shape.needs}"]
+    named = [fields[k] for k in tag.shape.operands] + side_rows(graph, tag.name, fields)
+    if None in named:
+        return lines + [f"its stretch ends past the {len(graph.side)} words of its list"]
+    return lines + [row_line(graph, row) if row < place
+                    else f"{word_text(row)} is no earlier row" for row in named]
+
+
+def side_rows(graph, name, fields):
+    """The rows that a Select or a Call names in the side list; None where it ends."""
+    if name not in ("Select", "Call"):
+        return []
+    count = fields[3] * 2 if name == "Select" else fields[3]
+    rows = graph.stretch(fields[2], count)
+    return [None] if rows is None else list(rows)
+
+
+def ext(book, place, detail):
+    return ill_formed(book.source, place)
+
+
+def core(book, place, detail):
+    return ill_formed(book.target, place)
+
+
+# Map and tables: 3 to 6, 14
+
+def map_length(book, place, detail):
+    return [f"the source has {counted(place, 'row')}, the map {counted(detail, 'word')}"]
+
+
+def matched_row(book, place, detail):
+    return image_lines(book, place)
+
+
+def entry_at(entries, place):
+    return entries[place] if place < len(entries) else (f"entry {place}: there is none", ())
+
+
+def read_table(book, place, detail):
+    line, words = entry_at(table("read", READ, book.reads), place)
+    if len(words) < 3:
+        return [line, "an entry is three words"]
+    variable, _, index = words
+    lines = [line]
+    if book.target.node(variable) != ("Var", (8, 0, 0)):
+        lines += ["the variable must be a Var of 8 bits; " + row_line(book.target, variable)]
+    if book.target.width_at(index) != 32:
+        lines += ["the index must be a row of 32 bits; " + row_line(book.target, index)]
+    return lines + repeated(reads(book)[:place], reads(book)[place])
+
+
+def call_table(book, place, detail):
+    line, words = entry_at(table("call", CALL, book.calls), place)
+    if len(words) < 4:
+        return [line, "an entry is four words"]
+    variable, _, start, count = words
+    lines = [line]
+    if book.target.node(variable)[0] != "Var":
+        lines += ["the variable must be a Var; " + row_line(book.target, variable)]
+    if start + count > len(book.arguments):
+        lines += [f"the arguments end past the {len(book.arguments)} words of their list"]
+    lines += ["an argument must be a row; " + row_line(book.target, row)
+              for row in book.arguments[start:start + count] if row >= len(book.target.rows)]
+    lines += ["the same variable: " + line for line in owned(reads(book), variable)]
+    return lines + repeated(calls(book)[:place], calls(book)[place])
+
+
+def repeated(earlier, entry):
+    """What an entry has in common with earlier ones."""
+    return (["the same variable: " + line for line in owned(earlier, entry.variable)]
+            + ["the same key: " + line for line in keyed(earlier, entry.key)])
+
+
+def dead_entry(book, place, detail):
+    return [row_line(book.target, place)] + owned(reads(book) + calls(book), place)
+
+
+# Rows: 4, 7 to 11
+
+def var_class(book, place, detail):
+    image = book.image(place)
+    others = [row_line(book.source, row) for row, other in enumerate(book.map[:place])
+              if other == image and book.source.node(row)[0] == "Var"]
+    others += owned(reads(book) + calls(book), image)
+    return (image_lines(book, place) + ["it must be a Var of the same width, and nothing else's"]
+            + ["also its: " + line for line in others])
+
+
+def mapped(book, row):
+    """A source row with its operands' images, as text."""
+    tag = tag_of(book.source.rows[row], book.source.size)
+    fields = list(book.source.rows[row][1:])
+    for k in tag.shape.operands:
+        fields[k] = book.image(fields[k])
+    text = f"{tag.name} {fill(tag.shape.form, fields)}"
+    return text + (", MAX being an operand without image" if MAX in fields else "")
+
+
+def node_mismatch(book, place, detail):
+    lines = image_lines(book, place)
+    if book.source.node(place)[0]:
+        lines += ["it must be " + mapped(book, place)]
+    return lines
+
+
+def chain_mismatch(book, place, detail):
+    """The walk along a Select's pairs, down to where it fails."""
+    lines, (name, fields) = image_lines(book, place), book.source.node(place)
+    if name != "Select":
+        return lines
+    array, index = fields[:2]
+    at = book.image(place)
+    for k, (pair_index, value) in enumerate(book.source.pairs(*fields[2:]) or ()):
+        lines += [f"pair {k}, index row {pair_index}, value row {value}:"]
+        constants = book.source.constant(pair_index), book.source.constant(index)
+        if None in constants:
+            step, at = store_step(book, index, pair_index, value, at)
+            lines += step
+            if at is None:
+                return lines
+        elif constants[0] == constants[1]:
+            return lines + [f"  equal constants end the walk: target row {word_text(at)} must be "
+                            f"the value's image, {word_text(book.image(value))}"]
+        else:
+            lines += ["  unequal constants, passed over"]
+    lines += [f"no pair is left: target row {word_text(at)} must be the variable of a read "
+              f"of array {array} at target row {word_text(book.image(index))}",
+              row_line(book.target, at)]
+    return lines + registered(reads(book), at, (array, (book.image(index),)))
+
+
+def store_step(book, index, pair_index, value, at):
+    """What a pair asks of a target row, and the row behind it, None if it fails."""
+    name, fields = book.target.node(at)
+    equal, first = (book.image(pair_index), book.image(index)), book.image(value)
+    condition = ("Eq", equal + (0,))
+    if name == "Ite" and fields[1] == first and book.target.node(fields[0]) == condition:
+        return [f"  target row {at} is its Ite"], fields[2]
+    need = (f"  target row {word_text(at)} must be an Ite over Eq {words_text(equal)} "
+            f"with {word_text(first)} first")
+    seen = [at, fields[0]] if name == "Ite" else [at]
+    return [need] + ["  " + row_line(book.target, row) for row in seen], None
+
+
+def call_mismatch(book, place, detail):
+    lines, (name, fields) = image_lines(book, place), book.source.node(place)
+    if name != "Call":
+        return lines
+    function, width, start, count = fields
+    arguments = tuple(map(book.image, book.source.stretch(start, count) or ()))
+    lines += [f"it must be a Var of {bits_text(width)}, the variable of a call of function "
+              f"{function} with the target rows [{words_text(arguments)}]"]
+    return lines + registered(calls(book), book.image(place), (function, arguments))
+
+
+def registered(entries, variable, key):
+    """The entry of a variable and the entry of a key."""
+    lines = ["the entry of that row: " + line for line in owned(entries, variable)]
+    named = ["the entry that is meant: " + line for line in keyed(entries, key)]
+    return lines + (named or ["there is no such entry"])
+
+
+# Roots: 12, 13
+
+def due(book):
+    """The pairs of entries that need a congruence root, in order."""
+    for entries in (reads(book), calls(book)):
+        for first, second in combinations(entries, 2):
+            (symbol, rows), (other, others) = first.key, second.key
+            constants = first.constant, second.constant
+            unequal = None not in constants and constants[0] != constants[1]
+            if symbol == other and len(rows) == len(others) and not unequal:
+                yield first, second
+
+
+def due_text(first, second):
+    """The congruence root of two entries."""
+    equal = [f"Eq({a}, {b})" for a, b in zip(first.key[1], second.key[1])]
+    left = equal[0] if equal else "no arguments"
+    for text in equal[1:]:
+        left = f"BoolAnd({left}, {text})"
+    return f"BoolOr(Not({left}), Eq({first.variable}, {second.variable}))"
+
+
+def root_line(book, position):
+    if position >= len(book.target_roots):
+        return f"target root {position}: there is none, the list has {len(book.target_roots)}"
+    return f"target root {position}: " + row_line(book.target, book.target_roots[position])
+
+
+def root_mismatch(book, place, detail):
+    leading = len(book.roots)
+    images = tuple(map(book.image, book.roots))
+    if MAX not in images and images == book.target_roots[:leading]:
+        count = sum(1 for _ in due(book))
+        return [f"{leading} leading and {counted(count, 'congruence root')} are due, "
+                f"the target has {len(book.target_roots)}; left over from here:",
+                root_line(book, leading + count)]
+    if place >= leading:
+        return [f"source root {place}: there is none"]
+    return ([f"source root {place}:"] + image_lines(book, book.roots[place])
+            + [root_line(book, place)])
+
+
+def below(graph, root):
+    """The rows that a root names, through Boolean rows, as far as a few lines reach."""
+    rows = [root]
+    for row in rows:
+        name, fields = graph.node(row)
+        if name in ("BoolOr", "BoolAnd", "Not"):
+            named = fields[:1] if name == "Not" else fields[:2]
+            rows += [operand for operand in named if operand not in rows][:12 - len(rows)]
+    return rows[1:]
+
+
+def congruence_mismatch(book, place, detail):
+    lines = [root_line(book, place)]
+    for root in book.target_roots[place:place + 1]:
+        lines += [row_line(book.target, row) for row in below(book.target, root)]
+    for position, (first, second) in enumerate(due(book), len(book.roots)):
+        if position == place:
+            return lines + ["due there: " + due_text(first, second), first.line, second.line]
+    return lines
+
+
+# Shape: 20
+
+def shape_lines(data, place):
+    """Why a book is none, by the place of 20."""
+    if place == 0:
+        return [f"the book has {len(data)} bytes, its contents alone take {CONTENTS}"]
+    if place == 13:
+        return [f"the book has {len(data)} bytes; verdict reads at most {LIMIT}"]
+    if len(data) < CONTENTS or place > 12:
+        return []
+    end = CONTENTS + sum(map(len, decode(data)[0][:place - 1]))
+    if place == 12:
+        return [f"the sections end at byte {end}, the book has {len(data)}"]
+    start, length = unpack(data[:CONTENTS])[2 * place - 2:2 * place]
+    section = SECTIONS[place - 1]
+    whole = "" if section.form == BITS else ", be whole words of 8 bytes"
+    return [f"section {place}, {section.name}: start {start}, length {length}",
+            f"it must start at {end}{whole} and end within the book's {len(data)} bytes"]
+
+
+# Answers
+
+def accepted(book):
+    leading = len(book.roots)
+    return ["either both source and target are satisfiable, or neither is",
+            f"source: {counted(len(book.source.rows), 'row')}, {counted(leading, 'root')}",
+            f"target: {counted(len(book.target.rows), 'row')}, {counted(leading, 'leading root')}, "
+            f"{counted(len(book.target_roots) - leading, 'congruence root')}",
+            f"{counted(len(reads(book)), 'read')} and {counted(len(calls(book)), 'call')} "
+            "became variables"]
+
+
+# Number: name, meaning, what shows its place.
+ANSWERS = {
+    1: ("Ext", "a source row is ill-formed", ext),
+    2: ("Core", "a target row is ill-formed", core),
+    3: ("MapLength", "the map has not one word a source row", map_length),
+    4: ("MapOutOfRange", "a source row is mapped past the target", matched_row),
+    5: ("ReadTable", "a read entry is bad", read_table),
+    6: ("CallTable", "a call entry is bad", call_table),
+    7: ("VarClass", "a variable's image is not a free variable of its width", var_class),
+    8: ("ConstMismatch", "a constant's image is not the same constant", matched_row),
+    9: ("NodeMismatch", "a row's image is not the same operator over the images", node_mismatch),
+    10: ("ChainMismatch", "a Select's image is not its lowering", chain_mismatch),
+    11: ("CallMismatch", "a Call's image is not its variable", call_mismatch),
+    12: ("RootMismatch", "a source root's image is not the target's root, or roots are left over",
+         root_mismatch),
+    13: ("CongruenceMismatch", "a target root is not the congruence root due", congruence_mismatch),
+    14: ("DeadEntry", "no source row reaches an entry's variable", dead_entry),
+    15: ("RowCount", "a graph's words are no whole rows", row_count),
+    16: ("BadRow", "a row has an unknown tag, or an unused field that is not 0", bad_row),
+    17: ("BadBit", "a bit is neither 0 nor 1", bad_bit),
+    18: ("WorkShort", "a work list is too short", lambda book, place, detail: []),
+}
+
+
+def explain(data, answer):
+    """Lines about verdict's answer (number, place, detail) to a book."""
+    number, place, detail = answer
+    if number == 20:
+        return ["20 BookShape: the bytes are no book"] + shape_lines(data, place)
+    bodies, bad = decode(data)
+    if bad is not None:
+        return ["the bytes are no book, yet the answer is not 20"]
+    if number == 0:
+        return accepted(Book(bodies))
+    if number not in ANSWERS:
+        return [f"{number} is no answer to a book"]
+    name, meaning, show = ANSWERS[number]
+    return [f"{number} {name}: {meaning}"] + show(Book(bodies), place, detail)

@@ -1,0 +1,231 @@
+"""Rows of words as people write them: tags, forms, widths.
+
+Unproved, as all of tools/. What is proved is the checker, which reads the
+book's words itself; the widths here only serve comments and explanations.
+"""
+
+import re
+from typing import Callable, NamedTuple
+
+MAX = 2**64 - 1
+SOURCE_WORDS, TARGET_WORDS = 5, 4
+CORE_TAGS = 37
+
+
+class Shape(NamedTuple):
+    """What the rows of some tags have in common."""
+
+    form: str  # how the fields are written; each # is one, in order
+    operands: tuple  # which fields name earlier rows
+    width: Callable  # (graph, *fields) to the width, 0 for an ill-formed row
+    needs: str  # when a row is well formed
+
+
+def const_width(graph, start, width):
+    return width if start + width <= len(graph.bits) else 0
+
+
+def same_width(graph, a, b):
+    return graph.width_at(a) if graph.width_at(a) == graph.width_at(b) else 0
+
+
+def compare_width(graph, a, b):
+    return 1 if same_width(graph, a, b) else 0
+
+
+def bool_width(graph, *rows):
+    return 1 if all(graph.width_at(row) == 1 for row in rows) else 0
+
+
+def extract_width(graph, high, low, a):
+    return high - low + 1 if low <= high < graph.width_at(a) else 0
+
+
+def sum_width(first, second):
+    return first + second if first + second <= MAX else 0
+
+
+def concat_width(graph, a, b):
+    widths = graph.width_at(a), graph.width_at(b)
+    return sum_width(*widths) if all(widths) else 0
+
+
+def extend_width(graph, a, by):
+    return sum_width(graph.width_at(a), by) if graph.width_at(a) else 0
+
+
+def ite_width(graph, c, t, e):
+    return same_width(graph, t, e) if graph.width_at(c) == 1 else 0
+
+
+def select_width(graph, array, index, start, count):
+    pairs = graph.pairs(start, count)
+    good = graph.width_at(index) == 32 and pairs is not None
+    if not good:
+        return 0
+    fits = (graph.width_at(x) == 32 and graph.width_at(v) == 8 for x, v in pairs)
+    return 8 if all(fits) else 0
+
+
+def call_width(graph, function, width, start, count):
+    arguments = graph.stretch(start, count)
+    good = arguments is not None and all(graph.width_at(a) for a in arguments)
+    return width if good else 0
+
+
+VAR = Shape("#", (), lambda graph, width: width, "a width above 0")
+CONST = Shape("bits #+#", (), const_width,
+              "a width above 0 and a stretch within the bit list")
+BIN = Shape("# #", (0, 1), same_width, "two earlier rows of one width")
+COMPARE = BIN._replace(width=compare_width)
+BOOL = BIN._replace(width=bool_width, needs="two earlier rows of width 1")
+CONCAT = BIN._replace(width=concat_width,
+                      needs="two earlier rows, their widths' sum below 2^64")
+EXTRACT = Shape("high # low # of #", (2,), extract_width,
+                "low <= high < the width of an earlier row")
+EXTEND = Shape("# by #", (0,), extend_width, "an earlier row, a sum below 2^64")
+ITE = Shape("# # #", (0, 1, 2), ite_width,
+            "an earlier row of width 1 and two of one width")
+NOT = Shape("#", (0,), bool_width, "an earlier row of width 1")
+UN = Shape("#", (0,), lambda graph, a: graph.width_at(a), "an earlier row")
+SELECT = Shape("array # index # pairs #+#", (1,), select_width,
+               "an earlier index row of width 32, and pairs of an earlier index "
+               "row of width 32 and an earlier value row of width 8")
+CALL = Shape("function # width # arguments #+#", (), call_width,
+             "a width above 0 and earlier rows as arguments")
+
+
+class Tag(NamedTuple):
+    name: str
+    shape: Shape
+
+
+def tags(names, shape):
+    return [Tag(name, shape) for name in names.split()]
+
+
+# The tags by number, 0 to 38; the last two stand in sources only.
+TAGS = (
+    tags("Var", VAR) + tags("Const", CONST)
+    + tags("Add Sub Mul Udiv Urem And Or Xor Shl Lshr Ashr Rotr", BIN)
+    + tags("Extract", EXTRACT) + tags("Concat", CONCAT)
+    + tags("ZeroExt SignExt", EXTEND) + tags("Ite", ITE)
+    + tags("Eq Ne Ult Ule Ugt Uge Slt Sle Sgt Sge", COMPARE)
+    + tags("Not", NOT) + tags("BoolAnd BoolOr", BOOL) + tags("BvNot Neg", UN)
+    + tags("Rotl Sdiv Srem", BIN) + tags("Select", SELECT) + tags("Call", CALL)
+)
+
+
+def known_tags(size):
+    """The tags of rows of that many words."""
+    return TAGS if size == SOURCE_WORDS else TAGS[:CORE_TAGS]
+
+
+def tag_of(row, size):
+    """The tag of a row, or None for words that are no good row."""
+    known = known_tags(size)
+    if len(row) != size or row[0] >= len(known):
+        return None
+    tag = known[row[0]]
+    return None if any(row[1 + tag.shape.form.count("#"):]) else tag
+
+
+def word_text(word):
+    return "MAX" if word == MAX else str(word)
+
+
+def words_text(words):
+    return " ".join(map(word_text, words))
+
+
+def fill(form, words):
+    """A form with words for its fields."""
+    words = iter(words)
+    return re.sub("#", lambda _: word_text(next(words)), form)
+
+
+def row_text(row, size):
+    tag = tag_of(row, size)
+    if tag is None:
+        return "words " + words_text(row)
+    return f"{tag.name} {fill(tag.shape.form, row[1:])}"
+
+
+def bits_text(width):
+    return f"{width} bit" if width == 1 else f"{width} bits"
+
+
+class Graph:
+    """The rows of a source or a target, each with its width."""
+
+    def __init__(self, name, words, size, bits, side=()):
+        self.name, self.size, self.bits, self.side = name, size, bits, side
+        self.rows = [words[at:at + size] for at in range(0, len(words), size)]
+        self.widths = []
+        for row in self.rows:
+            self.widths.append(self.width(row))
+
+    def width(self, row):
+        tag = tag_of(row, self.size)
+        if tag is None:
+            return 0
+        return tag.shape.width(self, *row[1:1 + tag.shape.form.count("#")])
+
+    def width_at(self, row):
+        """The width of a row, 0 where there is none (yet)."""
+        return self.widths[row] if row < len(self.widths) else 0
+
+    def stretch(self, start, count):
+        """Words of the side list, or None where they end past it."""
+        if count and start + count > len(self.side):
+            return None
+        return self.side[start:start + count] if count else ()
+
+    def pairs(self, start, count):
+        words = self.stretch(start, 2 * count)
+        return words and tuple(zip(words[::2], words[1::2]))
+
+    def node(self, row):
+        """Name and fields of a row; no name where there is no good row."""
+        words = self.rows[row] if row < len(self.rows) else ()
+        tag = tag_of(words, self.size)
+        return (tag.name if tag else None), tuple(words[1:])
+
+    def constant(self, row):
+        """The bits of a Const row, else None."""
+        name, fields = self.node(row)
+        return self.bits[fields[0]:sum(fields[:2])] if name == "Const" else None
+
+    def text(self, row):
+        return row_text(self.rows[row], self.size)
+
+    def note(self, row):
+        """What the fields do not show: width, constant, pairs, arguments."""
+        if tag_of(self.rows[row], self.size) is None:
+            return "no good row"
+        if not self.widths[row]:
+            return "ill-formed"
+        return bits_text(self.widths[row]) + self.extra(row)
+
+    def extra(self, row):
+        name, fields = self.node(row)
+        if name == "Const":
+            return constant_text(self.constant(row))
+        if name == "Select" and fields[3]:
+            pairs = [f"{x} -> {v}" for x, v in self.pairs(*fields[2:])]
+            return "; " + shortened(pairs)
+        if name == "Call" and fields[3]:
+            return " of " + shortened(map(str, self.stretch(*fields[2:])))
+        return ""
+
+
+def constant_text(bits):
+    if len(bits) > 256 or max(bits) > 1:
+        return ""
+    value = int("".join(str(bit) for bit in reversed(bits)), 2)
+    return f", value {value:#x}"
+
+
+def shortened(texts):
+    texts = list(texts)
+    return ", ".join(texts[:6]) + (", .." if len(texts) > 6 else "")

@@ -1,0 +1,341 @@
+#!/usr/bin/env python3
+"""Tests of tools/book.py: python3 tools/test_book.py"""
+
+import glob
+import os
+import random
+import subprocess
+import sys
+import tempfile
+import unittest
+
+import book as command
+from explain import ANSWERS, explain
+from graph import MAX, TAGS, known_tags
+from listing import SECTIONS, BadListing, BITS, ROW, decode, encode, listing, pack, parse
+
+TOP = command.TOP
+SAMPLES = sorted(glob.glob(os.path.join(TOP, "samples", "*.txt")))
+VERDICT = os.path.join(TOP, "target", "bin", "verdict")
+
+
+def stem(path):
+    return os.path.splitext(os.path.basename(path))[0]
+
+
+def contents(path):
+    with open(path, "rb") as file:
+        return file.read()
+
+
+def sample(name, ending):
+    return contents(os.path.join(TOP, "samples", name + ending))
+
+
+# Random books
+
+def random_word(random_, rows):
+    return random_.choice([random_.randrange(rows + 1), random_.randrange(rows + 1), 0, 1, 8, 32,
+                           rows, MAX, MAX - 1, 2**63, random_.randrange(2**64)])
+
+
+def random_row(random_, size, rows):
+    """A well-encoded row, its operands mostly earlier rows."""
+    tag = random_.randrange(len(known_tags(size)))
+    used = TAGS[tag].shape.form.count("#")
+    fields = [random_.choice([1, 8, 32]) if tag == 0 else random_word(random_, rows)
+              for _ in range(used)]
+    return [tag] + fields + [0] * (size - 1 - used)
+
+
+def random_body(random_, section):
+    """A body in which some words are no rows, no entries, or cut."""
+    count = random_.randrange(6)
+    if section.form == BITS:
+        return bytes(random_.choice([0, 1, 1, random_.randrange(256)]) if random_.random() < 0.2
+                     else random_.randrange(2) for _ in range(count * 15))
+    if section.form == ROW and random_.random() < 0.8:
+        words = [word for row in range(count) for word in random_row(random_, section.size, row)]
+    else:
+        words = [random_word(random_, count) for _ in range(count * section.size)]
+    if random_.random() < 0.2:
+        words = words[:random_.randrange(len(words) + 1)]
+    return pack(words)
+
+
+def random_bodies(seed):
+    random_ = random.Random(seed)
+    return [random_body(random_, section) for section in SECTIONS]
+
+
+def damaged(seed):
+    """The bodies of a sample with a few words set at random."""
+    random_ = random.Random(seed)
+    bodies = decode(sample(stem(random_.choice(SAMPLES)), ".book"))[0]
+    for _ in range(random_.randrange(4)):
+        place = random_.randrange(len(bodies))
+        at = random_.randrange(len(bodies[place]) // 8 + 1) * 8
+        word = pack([random_word(random_, 40)])
+        bodies[place] = bodies[place][:at] + word + bodies[place][at + 8:]
+    return bodies
+
+
+class RoundTrip(unittest.TestCase):
+    def assert_same(self, bodies):
+        made = encode(bodies)
+        self.assertEqual(decode(made), (bodies, None))
+        self.assertEqual(parse(listing(bodies)), made)
+
+    def test_random(self):
+        for seed in range(400):
+            with self.subTest(seed=seed):
+                self.assert_same(random_bodies(seed))
+
+    def test_damaged(self):
+        for seed in range(400):
+            with self.subTest(seed=seed):
+                self.assert_same(damaged(seed))
+
+    def test_every_tag(self):
+        """Also tags that there are not, and fields that a tag does not use."""
+        for place, size in ((0, 5), (8, 4)):
+            for used in range(size):
+                bodies = [b""] * 11
+                bodies[place] = b"".join(
+                    pack([tag] + [7] * used + [0] * (size - 1 - used)) for tag in range(41))
+                self.assert_same(bodies)
+
+    def test_good_rows_are_named(self):
+        text = listing(decode(sample("reply", ".book"))[0])
+        self.assertNotIn("words ", text)
+        self.assertIn("Ugt 22 23", text)
+
+    def test_forms_of_writing(self):
+        plain = "source\n 0: Var 8\nsource bits\n 1 0 1\nmap\n 18446744073709551615 16\n"
+        other = ("map # here\r\n - 0x10\r\nsource bits\n bytes 1 0x0\n 2: value 1 width 1\n"
+                 "source\nwords 0 8 0\nwords 0 0\n\n")
+        self.assertEqual(parse(plain), parse(other))
+
+
+# A listing, the number of its bad line, a part of the message.
+BAD_LISTINGS = [
+    ("Var 8", 1, "no section"),
+    ("\n\nsorce\n", 3, "is `source` meant?"),
+    ("source\nVar 8\nsource\n", 3, "twice the section"),
+    ("source\n Var\n", 2, "not of the form `Var #`"),
+    ("source\n Var 8 9\n", 2, "not of the form `Var #`"),
+    ("source\n Vra 8\n", 2, "no tag of a source row: `Vra`; is `Var` meant?"),
+    ("target\n Select array 7 index 0 pairs 0+0\n", 2, "no tag of a target row: `Select`"),
+    ("source\n Select array 7 index 0 pairs 0\n", 2, "not of the form `Select array"),
+    ("source\n Add 0 -1\n", 2, "a negative number: `-1`"),
+    ("source\n Add 0 x\n", 2, "not a number: `x`"),
+    ("source\n Var 18446744073709551616\n", 2, "above 2^64-1"),
+    ("source\n Var 0x10000000000000000\n", 2, "above 2^64-1"),
+    ("source\n Var " + "9" * 10000 + "\n", 2, "above 2^64-1"),
+    ("source\n Var \u0661\n", 2, "not a number"),
+    ("source\n Var 1_0\n", 2, "not a number"),
+    ("source\n 1: Var 8\n", 2, "the label is 1, but this is 0"),
+    ("source\n 0: Var 8\n 0: Var 8\n", 3, "the label is 0, but this is 1"),
+    ("source\n words 0 8\n 0: Var 8\n", 3, "but this is 0, 2 words behind its start"),
+    ("source\n 0:\n", 2, "nothing stands behind the label"),
+    ("source\n x: Var 8\n", 2, "not a number: `x`"),
+    ("source\n words\n", 2, "numbers are missing"),
+    ("source roots\n -\n", 2, "not a number: `-`"),
+    ("map\n targets\n", 2, "is `target` meant?"),
+    ("reads\n 1 7 0\n", 2, "not of the form `variable # array # index #`"),
+    ("calls\n variable 1 function 2 arguments 3\n", 2, "not of the form"),
+    ("source bits\n 0120\n", 2, "not bits"),
+    ("source bits\n bytes 256\n", 2, "above 255"),
+    ("source bits\n bytes MAX\n", 2, "not a number"),
+    ("source bits\n value 4 width 2\n", 2, "does not fit its width"),
+    ("source bits\n value 0 width 99999\n", 2, "does not fit its width"),
+    ("source bits\n 0: 11\n 1: 11\n", 3, "the label is 1, but this is 2"),
+]
+
+
+class Listings(unittest.TestCase):
+    def test_bad(self):
+        for text, line, message in BAD_LISTINGS:
+            with self.subTest(text=text[:40]):
+                with self.assertRaises(BadListing) as caught:
+                    parse(text)
+                self.assertEqual(caught.exception.args[0], line)
+                self.assertIn(message, caught.exception.args[1])
+
+    def test_any_damage_is_a_message(self):
+        text = sample("empty-reply", ".txt").decode()
+        for seed in range(600):
+            random_ = random.Random(seed)
+            at = random_.randrange(len(text))
+            piece = random_.choice(["", ":", "#", "-", "+", "9" * 30, "\n", "x", "words", "\0"])
+            try:
+                parse(text[:at] + piece + text[at + random_.randrange(4):])
+            except BadListing as error:
+                self.assertIsInstance(error.args[0], int)
+
+
+class Shapes(unittest.TestCase):
+    def test_places(self):
+        good = sample("case-1", ".book")
+        self.assertEqual(decode(good[:175])[1], 0)
+        self.assertEqual(decode(good + b"x")[1], 12)
+        for number in range(1, 12):
+            for at, word in ((16 * number - 16, 175), (16 * number - 8, MAX)):
+                self.assertEqual(decode(good[:at] + pack([word]) + good[at + 8:])[1], number)
+        self.assertEqual(decode(encode([b"1234567"] + [b""] * 10))[1], 1)
+        self.assertEqual(decode(encode([b"", b"\1"] + [b""] * 7 + [b"\1"] + [b""]))[1], None)
+
+    def test_all_places_are_explained(self):
+        for data in (b"", sample("case-1", ".book"), sample("case-1", ".book") + b"x"):
+            for place in range(15):
+                self.assertTrue(explain(data, (20, place, 0)))
+
+
+# What the explanation of a sample's answer must show.
+EXPLAINED = [
+    ("case-1", ["satisfiable", "1 read"]),
+    ("case-2", ["source root 0", "it has no image"]),
+    ("case-3", ["target row 1: Var 8", "read entry 0: variable 1 array 7 index 0"]),
+    ("case-4", ["Select array 7 index 0", "there is no such entry"]),
+    ("case-5", ["read entry 1", "the same key: read entry 0"]),
+    ("case-6a", ["the source has 3 rows, the map 2 words"]),
+    ("case-6b", ["its image, target row 3: there is none"]),
+    ("case-7", ["left over", "target root 1"]),
+    ("case-8b", ["due there: BoolOr(Not(Eq(0, 1)), Eq(2, 3))", "read entry 1"]),
+    ("case-9b", ["0 congruence roots are due", "target root 0"]),
+    ("case-10b", ["must be an Ite over Eq 0 1 with 2 first", "target row 4: Eq 1 0"]),
+    ("empty-reply-wrong", ["pair 1", "read entry 2: variable 13", "target row 12: Var 8"]),
+]
+
+
+class Explanations(unittest.TestCase):
+    def test_samples(self):
+        for name, parts in EXPLAINED:
+            words = sample(name, ".line").decode().split()
+            answer = tuple(map(int, words[1:])) or (0, 0, 0)
+            text = "\n".join(explain(sample(name, ".book"), answer))
+            for part in parts:
+                with self.subTest(sample=name, part=part):
+                    self.assertIn(part, text)
+
+    def test_root_without_image(self):
+        data = parse("source roots\n 0\ntarget roots\n MAX\n")
+        self.assertIn("it has no image", explain(data, (12, 0, 0)))
+
+    def test_any_answer(self):
+        """Also a wrong answer gets lines."""
+        for seed in range(600):
+            random_ = random.Random(seed)
+            data = encode(random_bodies(seed) if seed % 2 else damaged(seed))
+            for number in list(ANSWERS) + [0, 19, 20, 24]:
+                place = random_.choice([0, 1, 2, 3, 5, 40, MAX])
+                with self.subTest(seed=seed, number=number, place=place):
+                    self.assertTrue(explain(data, (number, place, random_.choice([0, 1, 2, MAX]))))
+
+
+class CommandLine(unittest.TestCase):
+    def setUp(self):
+        folder = tempfile.TemporaryDirectory()
+        self.addCleanup(folder.cleanup)
+        self.folder = folder.name
+
+    def file(self, name, data):
+        path = os.path.join(self.folder, name)
+        with open(path, "wb") as file:
+            file.write(data)
+        return path
+
+    def fake(self, printed):
+        """A program that reads everything and prints that."""
+        path = self.file("fake", b"#!/bin/sh\ncat >/dev/null\nprintf '" + printed + b"'\n")
+        os.chmod(path, 0o755)
+        return path
+
+    def run_book(self, *words, status, given=b""):
+        program = [sys.executable, os.path.join(TOP, "tools", "book.py"), *words]
+        run = subprocess.run(program, input=given, capture_output=True)
+        self.assertEqual(run.returncode, status, run.stderr)
+        self.assertNotIn(b"Traceback", run.stderr)
+        return run.stdout, run.stderr.decode()
+
+    def test_make_and_show(self):
+        made = os.path.join(self.folder, "made")
+        self.run_book("make", os.path.join(TOP, "samples", "reply.txt"), "-o", made, status=0)
+        self.assertEqual(contents(made), sample("reply", ".book"))
+        shown, _ = self.run_book("show", made, status=0)
+        again, _ = self.run_book("make", "-", status=0, given=shown)
+        self.assertEqual(again, contents(made))
+
+    def test_messages(self):
+        bad = self.file("bad.txt", b"source\n Vra 8\n")
+        self.assertIn("bad.txt:2: no tag", self.run_book("make", bad, status=2)[1])
+        latin = self.file("latin.txt", b"source\n Var 8 # \xe9\n")
+        self.assertIn("latin.txt:2: not UTF-8", self.run_book("make", latin, status=2)[1])
+        self.assertIn("No such file", self.run_book("make", "/no/such", status=2)[1])
+        self.assertIn("No such file", self.run_book("show", "/no/such", status=2)[1])
+        self.assertIn("directory", self.run_book("show", self.folder, status=2)[1])
+        for words in ([], ["make"], ["show", "a", "b"], ["eat", "a"], ["make", "a", "-x"]):
+            self.assertIn("usage", self.run_book(*words, status=2)[1])
+
+    def test_bad_shape(self):
+        data = sample("case-1", ".book") + b"x"
+        shown, message = self.run_book("show", "-", status=1, given=data)
+        self.assertEqual(shown, b"")
+        self.assertIn("the sections end at byte 456, the book has 457", message)
+        self.assertIn("2: Eq 1 1", message)
+        message = self.run_book("show", "-", status=1)[1]
+        self.assertIn("0 bytes", message)
+
+    def test_long_book(self):
+        text = b"source bits\n" + b"0" * 70000
+        data, message = self.run_book("make", "-", status=0, given=text)
+        self.assertIn("at most 65536", message)
+        long = self.file("long", data)
+        program = self.fake(b"refused 20 13 0\\n")
+        shown, _ = self.run_book("explain", long, "--verdict", program, status=1)
+        self.assertIn(b"reads at most 65536", shown)
+
+    def test_explain(self):
+        path = os.path.join(TOP, "samples", "case-10b.book")
+        program = self.fake(b"refused 10 3 0\\n")
+        shown, _ = self.run_book("explain", path, "--verdict", program, status=1)
+        self.assertIn(b"refused 10 3 0\n  10 ChainMismatch", shown)
+        shown, _ = self.run_book("explain", path, "--verdict", self.fake(b"accepted\\n"), status=0)
+        self.assertTrue(shown.startswith(b"accepted\n"))
+
+    def test_explain_without_an_answer(self):
+        path = os.path.join(TOP, "samples", "case-1.book")
+        for printed in (b"", b"yes\\n", b"accepted", b"refused 0 0 0\\n", b"refused 1 2\\n",
+                        b"refused 1 2 99999999999999999999\\n", b"\\377\\n"):
+            message = self.run_book("explain", path, "--verdict", self.fake(printed), status=2)[1]
+            self.assertIn("answered", message)
+        missing = os.path.join(self.folder, "none")
+        message = self.run_book("explain", path, "--verdict", missing, status=2)[1]
+        self.assertIn("no program", message)
+        self.run_book("explain", path, "--verdict", path, status=2)
+
+
+class Samples(unittest.TestCase):
+    def test_books_are_made_of_listings(self):
+        self.assertTrue(SAMPLES)
+        for path in SAMPLES:
+            with self.subTest(sample=stem(path)):
+                self.assertEqual(parse(contents(path).decode()), sample(stem(path), ".book"))
+
+    def test_table_of_samples(self):
+        table = contents(os.path.join(TOP, "samples", "README.md")).decode()
+        for path in SAMPLES:
+            line = sample(stem(path), ".line").decode().strip()
+            with self.subTest(sample=stem(path)):
+                self.assertRegex(table, rf"(?m)^\| {stem(path)} \| .* \| `{line}` \|$")
+
+    @unittest.skipUnless(os.path.exists(VERDICT), "rt check verdict builds target/bin/verdict")
+    def test_lines_are_what_verdict_prints(self):
+        for path in SAMPLES:
+            with self.subTest(sample=stem(path)):
+                line, _ = command.ask(VERDICT, sample(stem(path), ".book"))
+                self.assertEqual(line.encode(), sample(stem(path), ".line"))
+
+
+if __name__ == "__main__":
+    unittest.main()
