@@ -1,7 +1,7 @@
 -- The outcome of Check, refusal by refusal, and what each step promises the next. Assumes nothing.
 use Prim.Native.Nat.{ℕ, _*_, _-_, _≤_}
 use mathlib.Core.Path.{_≡_, refl, sym, ap, _∙_}
-use mathlib.Core.Bool.{true, false}
+use mathlib.Core.Bool.{Bool, true, false}
 use mathlib.Core.List.{List, [], _++_}
 use borrow.Author.Tests.{ltb-false}
 use lib.Dec.{ltb}
@@ -49,14 +49,23 @@ module _ (L : Lowering) (ws0 ws1 cls ent : List ℕ) where
   abbrev pub matching : Answer
   matching = firstRefusal (matchAnswers L)
 
-  abbrev whole : Answer
+  abbrev pub whole : Answer
   whole = checkAnswer L (length ws0) (length ws1) (length cls) (length ent)
 
-  whole-is : whole ≡ andThen counts (andThen forms matching)
+  pub whole-is : whole ≡ andThen counts (andThen forms matching)
   whole-is =
       refusal-append (countAnswers (L .source) (L .target) (length ws0) (length ws1) (length cls) (length ent))
       (graphAnswers (L .source) (L .ebits) (L .target) (L .tbits) (sourceIll L) (targetIll L) ++ matchAnswers L)
       ∙ ap (andThen counts) (refusal-append (graphAnswers (L .source) (L .ebits) (L .target) (L .tbits) (sourceIll L) (targetIll L)) (matchAnswers L))
+
+  -- after the counts no refusal is one that writes nothing
+  pub keeps-rest : isAccepted counts ≡ true → keeps whole ≡ false
+  keeps-rest c =
+      whole-keeps (isAccepted forms) refl
+    where
+      whole-keeps : (b : Bool) → isAccepted forms ≡ b → keeps whole ≡ false
+      whole-keeps true e = rw (whole-is, c, e) (keeps-match L)
+      whole-keeps false e = rw (whole-is, c, e) (keeps-graphs (L .source) (L .ebits) (L .target) (L .tbits) (sourceIll L) (targetIll L))
 
   settle : (a : Answer) (x0 x1 x2 x3 : List ℕ) → whole ≡ a → lent a ws0 (sourceWidths L) ≡ x0 → lent a ws1 (targetWidths L) ≡ x1
       → lent a cls (classes L (sourceRows L)) ≡ x2 → lent a ent (offsets L) ≡ x3 → outcome a x0 x1 x2 x3 ≡ check L ws0 ws1 cls ent

@@ -1,0 +1,162 @@
+-- The outcome of a book's verdict, refusal by refusal. Assumes nothing.
+use Prim.Native.Nat.{ℕ, _+_, _-_, _<_, _≤_}
+use mathlib.Core.Path.{_≡_, refl, sym, ap, _∙_}
+use mathlib.Core.Bool.{Bool, true, false, cond}
+use mathlib.Core.List.{List, _++_}
+use borrow.Author.Tests.{ltb-false, lt-ltb, le-ltb}
+use lib.Dec.{eqb, ltb}
+use lib.ListN.{length, replicate, take}
+use lib.Seq.{take-at}
+use Rattle.answers.specs.declared.Answer.{Answer}
+use Rattle.answers.specs.declared.Answer.the-variants.{Accepted, WorkShort, BookShape}
+use Rattle.answers.specs.Answer.{isAccepted, keeps, lent, andThen}
+use Rattle.lists.proofs.Choice.{no-way}
+use Rattle.lowering.specs.Check.{Lowering, lowering, sourceRows, sourceWidths, targetWidths, classes, offsets, refuse, firstRefusal, countAnswers, checkAnswer, Outcome, outcome, check}
+use Rattle.checker.proofs.Keeps.{keeps-count}
+use Rattle.checker.proofs.Outcome.{keeps-rest}
+use Rattle.book.specs.Book.{sections, contents, dueAt, firstBad, body, bookAnswer}
+use Rattle.book.specs.Words.{listOf}
+use Rattle.judge.specs.Judge.{held, bookWords, judgeAnswer, Judged, judged, judge}
+
+-- 20 is not among the refusals that write nothing
+keeps-book : (b : List ℕ) → keeps (bookAnswer b) ≡ false
+keeps-book b = go (ltb (length b) contents) (ltb (firstBad b) sections) (eqb (dueAt b sections) (length b))
+  where
+    go : (s f d : Bool) → keeps (cond s (BookShape 0) (cond f (BookShape (firstBad b + 1)) (cond d Accepted (BookShape (sections + 1))))) ≡ false
+    go true f d = refl
+    go false true d = refl
+    go false false true = refl
+    go false false false = refl
+
+-- two answers, the first of which counts where it refuses
+accepts-both : (a b : Answer) → isAccepted (andThen a b) ≡ true → (isAccepted a ≡ true) × (isAccepted b ≡ true)
+accepts-both a b e = go (isAccepted a) refl e
+  where
+    go : (t : Bool) → isAccepted a ≡ t → isAccepted (cond t b a) ≡ true → (isAccepted a ≡ true) × (isAccepted b ≡ true)
+    go true f g = (f, g)
+    go false f g = no-way (sym g ∙ f)
+
+refuses-one : (a b rest : Answer) → isAccepted (andThen a b) ≡ false → andThen a (andThen b rest) ≡ andThen a b
+refuses-one a b rest e = go (isAccepted a) refl e
+  where
+    go : (t : Bool) → isAccepted a ≡ t → isAccepted (cond t b a) ≡ false → cond t (andThen b rest) a ≡ cond t b a
+    go true f g = rw g
+    go false f g = refl
+
+module _ (b ws0 ws1 cls ent words : List ℕ) where
+  abbrev counts : Answer
+  counts = firstRefusal (countAnswers (held b .source) (held b .target) (length ws0) (length ws1) (length cls) (length ent))
+
+  abbrev short : Answer
+  short = refuse (ltb (length words) (length (bookWords b))) (WorkShort 5)
+
+  abbrev pub room : Answer
+  room = andThen counts short
+
+  abbrev checked : Answer
+  checked = checkAnswer (held b) (length ws0) (length ws1) (length cls) (length ent)
+
+  abbrev whole : Answer
+  whole = judgeAnswer b (length ws0) (length ws1) (length cls) (length ent) (length words)
+
+  settle : (a : Answer) (x0 x1 x2 x3 x4 : List ℕ) → whole ≡ a → lent a ws0 (sourceWidths (held b)) ≡ x0 → lent a ws1 (targetWidths (held b)) ≡ x1
+      → lent a cls (classes (held b) (sourceRows (held b))) ≡ x2 → lent a ent (offsets (held b)) ≡ x3 → lent a words (bookWords b) ≡ x4
+      → judged a x0 x1 x2 x3 x4 ≡ judge b ws0 ws1 cls ent words
+  settle a x0 x1 x2 x3 x4 e f g h k l = sym (rw (e, f, g, h, k, l))
+
+  module _ (a : Answer) where
+    pub shape-done : a ≡ bookAnswer b → isAccepted a ≡ false
+        → judged a (replicate (length ws0) 0) (replicate (length ws1) 0) (replicate (length cls) 0) (replicate (length ent) 0) (replicate (length words) 0)
+        ≡ judge b ws0 ws1 cls ent words
+    shape-done e n =
+        let r : isAccepted (bookAnswer b) ≡ false = rw e at n in
+        let k : keeps a ≡ false = rw e (keeps-book b) in
+        settle a _ _ _ _ _ (rw r (sym e)) (rw (n, k)) (rw (n, k)) (rw (n, k)) (rw (n, k)) (rw (n, k))
+
+    module _ (g : isAccepted (bookAnswer b) ≡ true) where
+      room-keeps : isAccepted room ≡ false → keeps room ≡ true
+      room-keeps n = go (isAccepted counts) refl n
+        where
+          go : (t : Bool) → isAccepted counts ≡ t → isAccepted (cond t short counts) ≡ false → keeps (cond t short counts) ≡ true
+          go true e m = short-keeps (ltb (length words) (length (bookWords b))) m
+            where
+              short-keeps : (t : Bool) → isAccepted (refuse t (WorkShort 5)) ≡ false → keeps (refuse t (WorkShort 5)) ≡ true
+              short-keeps true m = refl
+              short-keeps false m = no-way m
+          go false e m = keeps-count (held b .source) (held b .target) (length ws0) (length ws1) (length cls) (length ent) e
+
+      pub room-done : a ≡ room → isAccepted a ≡ false → judged a ws0 ws1 cls ent words ≡ judge b ws0 ws1 cls ent words
+      room-done e n =
+          let r : isAccepted room ≡ false = rw e at n in
+          let k : keeps a ≡ true = rw e (room-keeps r) in
+          settle a _ _ _ _ _ (rw g (refuses-one counts short checked r) ∙ sym e) (rw (n, k)) (rw (n, k)) (rw (n, k)) (rw (n, k)) (rw (n, k))
+
+      module _ (r : isAccepted room ≡ true) (y0 y1 y2 y3 : List ℕ) (o : outcome a y0 y1 y2 y3 ≡ check (held b) ws0 ws1 cls ent) where
+        is-checked : a ≡ checked
+        is-checked = ap (λ (z : Outcome). z .answer) o
+
+        whole-checked : whole ≡ a
+        whole-checked = let p = accepts-both counts short r in rw (g, p .0, p .1) (sym is-checked)
+
+        pub words-done : (x4 : List ℕ) → lent a words (bookWords b) ≡ x4 → judged a y0 y1 y2 y3 x4 ≡ judge b ws0 ws1 cls ent words
+        words-done x4 l =
+            settle a y0 y1 y2 y3 x4 whole-checked
+            (ap (λ (z : Answer). lent z ws0 (sourceWidths (held b))) is-checked ∙ sym (ap (λ (z : Outcome). z .source-widths) o))
+            (ap (λ (z : Answer). lent z ws1 (targetWidths (held b))) is-checked ∙ sym (ap (λ (z : Outcome). z .target-widths) o))
+            (ap (λ (z : Answer). lent z cls (classes (held b) (sourceRows (held b)))) is-checked ∙ sym (ap (λ (z : Outcome). z .class-list) o))
+            (ap (λ (z : Answer). lent z ent (offsets (held b))) is-checked ∙ sym (ap (λ (z : Outcome). z .entry-list) o)) l
+
+        pub check-refused : isAccepted a ≡ false → judged a y0 y1 y2 y3 (replicate (length words) 0) ≡ judge b ws0 ws1 cls ent words
+        check-refused n =
+            let k : keeps a ≡ false = rw is-checked (keeps-rest (held b) ws0 ws1 cls ent (accepts-both counts short r .0)) in
+            words-done _ (rw (n, k))
+
+        pub check-accepted : isAccepted a ≡ true
+            → judged a y0 y1 y2 y3 (bookWords b ++ replicate (length words - length (bookWords b)) 0) ≡ judge b ws0 ws1 cls ent words
+        check-accepted n = words-done _ (rw n)
+
+  -- room for the words
+  pub words-fit : isAccepted room ≡ true → length (bookWords b) ≤ length words
+  words-fit r = go (ltb (length words) (length (bookWords b))) refl (accepts-both counts short r .1)
+    where
+      go : (t : Bool) → ltb (length words) (length (bookWords b)) ≡ t → isAccepted (refuse t (WorkShort 5)) ≡ true → length (bookWords b) ≤ length words
+      go true e n = no-way (sym n)
+      go false e n = ltb-false _ _ e
+
+-- an outcome by its lists
+pub by-lists : (a : Answer) (x0 x1 x2 x3 x4 y0 y1 y2 y3 y4 : List ℕ) (z : Judged) → x0 ≡ y0 → x1 ≡ y1 → x2 ≡ y2 → x3 ≡ y3 → x4 ≡ y4
+    → judged a y0 y1 y2 y3 y4 ≡ z → judged a x0 x1 x2 x3 x4 ≡ z
+by-lists a x0 x1 x2 x3 x4 y0 y1 y2 y3 y4 z e f g h l k = rw (e, f, g, h, l) k
+
+-- the words stand in front, zeros after them
+pub words-cleared : (w rest ws after : List ℕ) (n k : ℕ) → ws ≡ w ++ rest → n ≡ length w → length ws ≡ k → after ≡ take n ws ++ replicate (length ws - n) 0
+    → after ≡ w ++ replicate (k - length w) 0
+words-cleared w rest ws after n k e f l g = let t : take n ws ≡ w = rw (e, f) (take-at w rest (length w) refl) in g ∙ rw (t, l, f)
+
+-- the answer to the counts and the room for the words
+module _ (b : List ℕ) (w0 w1 c e words : ℕ) (a : Answer) (q : a ≡ firstRefusal (countAnswers (held b .source) (held b .target) w0 w1 c e)) where
+  abbrev answered : Answer
+  answered = andThen (firstRefusal (countAnswers (held b .source) (held b .target) w0 w1 c e)) (refuse (ltb words (length (bookWords b))) (WorkShort 5))
+
+  pub counts-refused : isAccepted a ≡ false → a ≡ answered
+  counts-refused n = let m : isAccepted (firstRefusal (countAnswers (held b .source) (held b .target) w0 w1 c e)) ≡ false = rw q at n in rw m q
+
+  module _ (n : isAccepted a ≡ true) (k : ℕ) (l : k ≡ length (bookWords b)) where
+    counted : isAccepted (firstRefusal (countAnswers (held b .source) (held b .target) w0 w1 c e)) ≡ true
+    counted = rw q at n
+
+    pub words-short : words < k → WorkShort 5 ≡ answered
+    words-short h = rw (counted, sym l, lt-ltb _ _ h)
+
+    pub room-good : k ≤ words → Accepted ≡ answered
+    room-good h = rw (counted, sym l, le-ltb _ _ h)
+
+-- Check on eleven lists that are a book's
+pub held-by : (b x0 x1 x2 x3 x4 x5 x6 x7 x8 x9 x10 ws0 ws1 cls ent : List ℕ) (o : Outcome) → x0 ≡ listOf b 0 → x1 ≡ body b 1 → x2 ≡ listOf b 2 → x3 ≡ listOf b 3
+    → x4 ≡ listOf b 4 → x5 ≡ listOf b 5 → x6 ≡ listOf b 6 → x7 ≡ listOf b 7 → x8 ≡ listOf b 8 → x9 ≡ body b 9 → x10 ≡ listOf b 10
+    → o ≡ check (lowering x0 x1 x2 x3 x4 x5 x6 x7 x8 x9 x10) ws0 ws1 cls ent → o ≡ check (held b) ws0 ws1 cls ent
+held-by b x0 x1 x2 x3 x4 x5 x6 x7 x8 x9 x10 ws0 ws1 cls ent o e0 e1 e2 e3 e4 e5 e6 e7 e8 e9 e10 q =
+    q ∙ ap (λ (L : Lowering). check L ws0 ws1 cls ent) same
+  where
+    same : lowering x0 x1 x2 x3 x4 x5 x6 x7 x8 x9 x10 ≡ held b
+    same = rw (e0, e1, e2, e3, e4, e5, e6, e7, e8, e9, e10)

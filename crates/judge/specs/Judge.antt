@@ -1,0 +1,59 @@
+-- Check on the lists that a book holds (01, 'Section of a book'). Assumes nothing.
+use Prim.Native.Nat.{ℕ}
+use mathlib.Core.Bool.{cond}
+use mathlib.Core.List.{List}
+use lib.Dec.{ltb}
+use lib.ListN.{length}
+use Rattle.answers.specs.declared.Answer.{Answer}
+use Rattle.answers.specs.declared.Answer.the-variants.{WorkShort, BookShape}
+use Rattle.answers.specs.Answer.{andThen, lent}
+use Rattle.book.specs.Book.{sections, body, bookAnswer}
+use Rattle.book.specs.Words.{listOf, loaded}
+use Rattle.lowering.specs.Check.{Lowering, lowering, sourceRows, sourceWidths, targetWidths, classes, offsets, refuse, firstRefusal, countAnswers, checkAnswer}
+
+-- "the bodies in the order of `check_sliver_lowering`'s arguments"
+abbrev pub held : List ℕ → Lowering
+held b =
+    lowering (listOf b 0) (body b 1) (listOf b 2) (listOf b 3) (listOf b 4) (listOf b 5) (listOf b 6) (listOf b 7) (listOf b 8) (body b 9) (listOf b 10)
+
+-- all words that a book holds
+abbrev pub bookWords : List ℕ → List ℕ
+bookWords b = loaded b sections
+
+-- 20; then as Check on the book's lists, with room for some words in its four lists. A fifth list takes the book's words: "one too short is 18 by its
+-- place in the order lent", with Check's own 15 and 18 before it
+abbrev pub judgeAnswer : List ℕ → ℕ → ℕ → ℕ → ℕ → ℕ → Answer
+judgeAnswer b w0 w1 c e room =
+    andThen (bookAnswer b)
+    (andThen (firstRefusal (countAnswers (held b .source) (held b .target) w0 w1 c e))
+    (andThen (refuse (ltb room (length (bookWords b))) (WorkShort 5)) (checkAnswer (held b) w0 w1 c e)))
+
+-- an answer and what stands in the five lent lists afterwards
+pub record Judged : Type 0 where
+  pub answer : Answer
+  pub source-widths : List ℕ
+  pub target-widths : List ℕ
+  pub class-list : List ℕ
+  pub entry-list : List ℕ
+  pub word-list : List ℕ
+
+abbrev pub judged : Answer → List ℕ → List ℕ → List ℕ → List ℕ → List ℕ → Judged
+judged a ws0 ws1 cls ent words =
+    record { answer = a; source-widths = ws0; target-widths = ws1; class-list = cls; entry-list = ent; word-list = words }
+
+-- "15 and 18 write nothing, other refusals zero all that is lent for writing; acceptance leaves zeros past what it wrote": Check's lists and the book's
+-- words
+abbrev pub judge : List ℕ → List ℕ → List ℕ → List ℕ → List ℕ → List ℕ → Judged
+judge b ws0 ws1 cls ent words =
+    let a = judgeAnswer b (length ws0) (length ws1) (length cls) (length ent) (length words) in
+    let L = held b in
+    judged a (lent a ws0 (sourceWidths L)) (lent a ws1 (targetWidths L)) (lent a cls (classes L (sourceRows L))) (lent a ent (offsets L))
+    (lent a words (bookWords b))
+
+-- "reads a book of at most 65,536 bytes from standard input (longer: 20, place 13)"
+abbrev pub longest : ℕ
+longest = 65536
+
+-- what the program answers: judged with lists that are long enough for every book of that length
+abbrev pub verdictAnswer : List ℕ → ℕ → ℕ → ℕ → ℕ → Answer
+verdictAnswer b w0 w1 c e = cond (ltb longest (length b)) (BookShape 13) (andThen (bookAnswer b) (checkAnswer (held b) w0 w1 c e))
