@@ -9,7 +9,7 @@ use Rattle.answers.specs.declared.Answer.the-variants.{WorkShort, BookShape}
 use Rattle.answers.specs.Answer.{andThen, lent}
 use Rattle.book.specs.Book.{sections, body, bookAnswer}
 use Rattle.book.specs.Words.{listOf, loaded}
-use Rattle.lowering.specs.Check.{Lowering, lowering, sourceRows, sourceWidths, targetWidths, classes, offsets, refuse, firstRefusal, countAnswers, checkAnswer}
+use Rattle.lowering.specs.Check.{Lowering, lowering, sourceRows, targetRows, sourceWidths, targetWidths, classes, offsets, refuse, firstRefusal, countAnswers, checkAnswer}
 
 -- "the bodies in the order of `check_sliver_lowering`'s arguments"
 abbrev pub held : List ℕ → Lowering
@@ -54,6 +54,9 @@ judge b ws0 ws1 cls ent words =
 abbrev pub longest : ℕ
 longest = 65536
 
--- what the program answers: judged with lists that are long enough for every book of that length
-abbrev pub verdictAnswer : List ℕ → ℕ → ℕ → ℕ → ℕ → Answer
-verdictAnswer b w0 w1 c e = cond (ltb longest (length b)) (BookShape 13) (andThen (bookAnswer b) (checkAnswer (held b) w0 w1 c e))
+-- what the program answers: 20, or Check's answer on the book's lists, with work lists as long as their graphs
+abbrev pub verdict : List ℕ → Answer
+verdict b =
+    let L = held b in
+    cond (ltb longest (length b)) (BookShape 13)
+    (andThen (bookAnswer b) (checkAnswer L (sourceRows L) (targetRows L) (targetRows L) (targetRows L)))

@@ -8,7 +8,7 @@ ghost use Rattle.book.specs.Words.{Good, loaded};
 ghost use Rattle.answers.specs.Answer.{andThen};
 ghost use Rattle.answers.specs.declared.Answer.the-variants.{WorkShort};
 ghost use Rattle.lowering.specs.Check.{outcome, check, refuse, firstRefusal, countAnswers};
-ghost use Rattle.judge.specs.Judge.{held, bookWords, judged, judge};
+ghost use Rattle.judge.specs.Judge.{held, bookWords, judged, judge, verdict};
 use answers::Answer;
 
 // 15 and 18, with room for some words in each of the five lists.
@@ -116,4 +116,19 @@ pub fn judge(
     }
     lists::clear_from(words, book::offset(book, book::SECTIONS));
     a
+}
+
+// The verdict on a whole input, with work lists that are long enough for every book of at most 65,536 bytes.
+pub fn verdict(book: &[u8]) -> Answer
+    ensures answer { λ r. ⌜ r ≡ verdict (now (book .entry)) ⌝ }
+{
+    if 65536 < book.len() {
+        return Answer::BookShape(13);
+    }
+    let mut ws0 = [0u64; 2048];
+    let mut ws1 = [0u64; 2048];
+    let mut cls = [0u64; 2048];
+    let mut ent = [0u64; 2048];
+    let mut words = [0u64; 8192];
+    judge(book, &mut ws0, &mut ws1, &mut cls, &mut ent, &mut words)
 }
