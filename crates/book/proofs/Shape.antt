@@ -12,7 +12,7 @@ use Rattle.answers.specs.declared.Answer.the-variants.{Accepted, BookShape, NoS
 use Rattle.answers.specs.Answer.{isAccepted}
 use Rattle.lists.proofs.Choice.{no-way}
 use Rattle.lists.proofs.First.{first-before}
-use Rattle.book.specs.Book.{sections, contents, startOf, lengthOf, endOf, dueAt, isBits, badSection, firstBad, bookAnswer, sectionAnswer, body}
+use Rattle.book.specs.Book.{sections, contents, startOf, lengthOf, endOf, dueAt, isBits, badSection, firstBad, bookAnswer, sectionAnswer, body, sectionPlace, section}
 use Rattle.book.specs.Words.{Good}
 
 -- a stretch runs past n where its length is above the room from its start on
@@ -125,3 +125,11 @@ numbered b number = go (eqb number 0) refl (ltb sections number) refl
         let n : (number ≡ 0 → ⊥) = eqb-false number 0 e in
         let h : number ≤ sections = ltb-false sections number f in
         record { low = omega arith; high = omega arith; shape = a }
+
+-- a section by its place: the same stretch
+pub place-is : (b : List ℕ) (number : ℕ) → section b number ≡ take (sectionPlace b number .length) (drop (sectionPlace b number .start) b)
+place-is b number = go (isAccepted (sectionAnswer b number)) refl
+  where
+    go : (t : Bool) → isAccepted (sectionAnswer b number) ≡ t → section b number ≡ take (sectionPlace b number .length) (drop (sectionPlace b number .start) b)
+    go true e = rw e
+    go false e = rw e

@@ -8,6 +8,7 @@ use Rattle.answers.specs.declared.Answer.{Answer}
 use Rattle.answers.specs.declared.Answer.the-variants.{Accepted, BookShape, NoSection}
 use Rattle.answers.specs.Answer.{isAccepted}
 use Rattle.lists.specs.First.{first}
+use Rattle.book.specs.declared.Stretch.{Stretch}
 
 -- "A book is little-endian": the word whose lowest byte stands at a place
 abbrev pub wordAt : List ℕ → ℕ → ℕ
@@ -64,6 +65,12 @@ sectionAnswer b number = cond (eqb number 0) NoSection (cond (ltb sections numbe
 -- "The answer is that stretch of the caller's book": section i + 1
 abbrev pub body : List ℕ → ℕ → List ℕ
 body b i = take (lengthOf b i) (drop (startOf b i) b)
+
+-- where that stretch stands in the book, for callers that take numbers; 0 and 0 on refusal
+abbrev pub sectionPlace : List ℕ → ℕ → Stretch
+sectionPlace b number =
+    cond (isAccepted (sectionAnswer b number)) (record { start = startOf b (number - 1); length = lengthOf b (number - 1) })
+    (record { start = 0; length = 0 })
 
 -- "A refusal gives an empty stretch"
 abbrev pub section : List ℕ → ℕ → List ℕ

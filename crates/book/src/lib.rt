@@ -5,9 +5,16 @@ ghost use mathlib.Core.Bool.{true};
 ghost use Prim.Native.Nat.{_+_, _*_, _/_, _≤_, _<_};
 ghost use lib.Dec.{ltb};
 ghost use lib.ListN.{length, take, drop};
-ghost use Rattle.book.specs.Book.{wordAt, sections, contents, startOf, lengthOf, endOf, dueAt, isBits, badSection, firstBad, bookAnswer, sectionAnswer, body, section};
+ghost use Rattle.book.specs.Book.{wordAt, sections, contents, startOf, lengthOf, endOf, dueAt, isBits, badSection, firstBad, bookAnswer, sectionAnswer, body, sectionPlace, section};
 ghost use Rattle.book.specs.Words.{wordsOf, listOf, loaded, Good};
 use answers::Answer;
+
+// A part of a book: its first byte's place and its length in bytes.
+#[repr(C)]
+pub struct Stretch {
+    pub start: u64,
+    pub length: u64,
+}
 
 pub const SECTIONS: usize = 11;
 
@@ -162,6 +169,23 @@ pub fn section(book: &[u8], number: u64) -> &[u8]
         return &book[0..0];
     }
     body(book, number as usize - 1)
+}
+
+// Where a section stands in the book, 0 and 0 where section_answer refuses.
+pub fn section_place(book: &[u8], number: u64) -> Stretch
+    ensures place { λ r. ⌜ r ≡ sectionPlace (now (book .entry)) number ⌝ }
+{
+    if !answers::is_accepted(section_answer(book, number)) {
+        return Stretch {
+            start: 0,
+            length: 0,
+        };
+    }
+    let i = number as usize - 1;
+    Stretch {
+        start: start_of(book, i),
+        length: length_of(book, i),
+    }
 }
 
 // The words of some bytes, put at the start of a list.

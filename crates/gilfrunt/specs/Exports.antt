@@ -6,6 +6,7 @@ use Rattle.answers.specs.Answer.{wordsOf}
 use Rattle.widths.specs.Widths.{Out}
 use Rattle.values.specs.Values as values
 use Rattle.lowering.specs.Check.{Outcome}
+use Rattle.judge.specs.Judge.{Judged}
 
 -- number, place and detail, and the lent list afterwards
 pub record Result : Type 0 where
@@ -43,3 +44,19 @@ checked w ws0 ws1 cls ent = record { words = w; source-widths = ws0; target-widt
 
 abbrev pub checkedOf : Outcome → Checked
 checkedOf o = checked (wordsOf (o .answer)) (o .source-widths) (o .target-widths) (o .class-list) (o .entry-list)
+
+-- the same with a book's five lists
+pub record Judgement : Type 0 where
+  pub words : Words
+  pub source-widths : List ℕ
+  pub target-widths : List ℕ
+  pub class-list : List ℕ
+  pub entry-list : List ℕ
+  pub word-list : List ℕ
+
+abbrev pub judgement : Words → List ℕ → List ℕ → List ℕ → List ℕ → List ℕ → Judgement
+judgement w ws0 ws1 cls ent words =
+    record { words = w; source-widths = ws0; target-widths = ws1; class-list = cls; entry-list = ent; word-list = words }
+
+abbrev pub judgementOf : Judged → Judgement
+judgementOf o = judgement (wordsOf (o .answer)) (o .source-widths) (o .target-widths) (o .class-list) (o .entry-list) (o .word-list)

@@ -3,9 +3,12 @@ ghost use mathlib.Core.Path.{_≡_};
 ghost use Rattle.answers.specs.Answer.{wordsOf};
 ghost use Rattle.widths.specs.Widths.{sourceWidths, targetWidths, rootsAnswer};
 ghost use Rattle.values.specs.Values.{values};
-ghost use Rattle.gilfrunt.specs.Exports.{result, resultOf, results, resultsOf, checked, checkedOf};
+ghost use Rattle.gilfrunt.specs.Exports.{result, resultOf, results, resultsOf, checked, checkedOf, judgement, judgementOf};
+ghost use Rattle.book.specs.Book.{sectionAnswer, sectionPlace};
+ghost use Rattle.judge.specs.Judge.{judge};
 ghost use Rattle.lowering.specs.Check.{lowering, check};
 use answers::Words;
+use book::Stretch;
 
 #[no_mangle]
 pub extern "C" fn gilfrunt_source_widths(
@@ -87,5 +90,36 @@ pub extern "C" fn gilfrunt_check(
         classes,
         entries,
     );
+    answers::words_of(a)
+}
+
+#[no_mangle]
+pub extern "C" fn gilfrunt_section_answer(book: &[u8], number: u64) -> Words
+    ensures answer { λ r. ⌜ r ≡ wordsOf (sectionAnswer (now (book .entry)) number) ⌝ }
+{
+    let a = book::section_answer(book, number);
+    answers::words_of(a)
+}
+
+// A reference cannot be returned to C, so the section comes as its place; place-is in the crate book says that it is the same stretch.
+#[no_mangle]
+pub extern "C" fn gilfrunt_section(book: &[u8], number: u64) -> Stretch
+    ensures place { λ r. ⌜ r ≡ sectionPlace (now (book .entry)) number ⌝ }
+{
+    book::section_place(book, number)
+}
+
+#[no_mangle]
+pub extern "C" fn gilfrunt_judge(
+    book: &[u8],
+    ws0: &mut [u64],
+    ws1: &mut [u64],
+    classes: &mut [u64],
+    entries: &mut [u64],
+    words: &mut [u64],
+) -> Words
+    ensures outcome { λ r. ⌜ judgement r (now (ws0 .exit)) (now (ws1 .exit)) (now (classes .exit)) (now (entries .exit)) (now (words .exit)) ≡ judgementOf (judge (now (book .entry)) (now (ws0 .entry)) (now (ws1 .entry)) (now (classes .entry)) (now (entries .entry)) (now (words .entry))) ⌝ }
+{
+    let a = judge::judge(book, ws0, ws1, classes, entries, words);
     answers::words_of(a)
 }
