@@ -1,5 +1,5 @@
 -- What a section and a book of good shape have. Assumes nothing.
-use Prim.Native.Nat.{ℕ, _+_, _-_, _%_, _≤_, _<_}
+use Prim.Native.Nat.{ℕ, _+_, _-_, _%_, _^_, _≤_, _<_}
 use mathlib.Core.Path.{_≡_, refl, sym, _∙_}
 use mathlib.Core.Bool.{Bool, true, false, not, cond}
 use mathlib.Core.List.{List}
@@ -15,13 +15,13 @@ use Rattle.lists.proofs.First.{first-before}
 use Rattle.book.specs.Book.{sections, contents, startOf, lengthOf, endOf, dueAt, isBits, badSection, firstBad, bookAnswer, sectionAnswer, body, sectionPlace, section}
 use Rattle.book.specs.Words.{Good}
 
--- a stretch runs past n where its length is above the room from its start on
-pub past-room : (n start len : ℕ) → start ≤ n → ltb (n - start) len ≡ ltb n (start + len)
-past-room n start len h = go (ltb (n - start) len) refl
-  where
-    go : (b : Bool) → ltb (n - start) len ≡ b → b ≡ ltb n (start + len)
-    go true e = let l : n - start < len = ltb-true _ _ e in sym (lt-ltb n (start + len) (omega arith))
-    go false e = let l : len ≤ n - start = ltb-false _ _ e in sym (le-ltb n (start + len) (omega arith))
+-- a sum in words: it wraps where it comes out below its first part
+module _ (start len end : ℕ) (e : end ≡ (start + len) % 2 ^ 64) (s : start < 2 ^ 64) (l : len < 2 ^ 64) where
+  pub wraps-past : (n : ℕ) → n < 2 ^ 64 → end < start → n < start + len
+  wraps-past n m h = omega arith
+
+  pub sum-whole : start ≤ end → end ≡ start + len
+  sum-whole h = omega arith
 
 -- the tests of a section one after the other
 module _ (b : List ℕ) (i start due : ℕ) (s : start ≡ startOf b i) (d : due ≡ dueAt b i) where

@@ -22,9 +22,6 @@ sub-end-of c = search needs
 end-of-requires : tie.Need-end-of-requires
 end-of-requires c κs = ((search needs, c .before .before .if1 .left), last-within (c .before .before .before .before .args .book .now) (c .before .before .if1 .left) _ (c .before .first-bad .ensures) (c .if2 .left))
 
-add-t11 : tie.Need-add-t11
-add-t11 c = search needs
-
 returns-3 : tie.Need-returns-3
 returns-3 c = left-over (c .before .before .before .before .before .before .args .book .now) (c .before .before .before .before .if1 .left) _ (c .before .before .before .first-bad .ensures) (c .before .before .if2 .left) _ (c .before .end-of .ensures) (c .if3 .taken)
 
@@ -41,6 +38,5 @@ book-answer-spec =
     returns-2
     sub-end-of
     end-of-requires
-    add-t11
     returns-3
     returns-4)

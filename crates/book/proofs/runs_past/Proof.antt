@@ -1,20 +1,23 @@
 -- `book::runs_past` meets its contract. Assumes nothing.
-use Prim.Native.Nat.{_+_, _<_}
-use mathlib.Core.Path.{_≡_, sym}
-use native.Mathlib.Omega.{arith}
+use mathlib.Core.Path.{sym}
 use borrow.Author.Tests.{lt-ltb}
-use Rattle.book.proofs.Shape.{past-room}
+use Rattle.book.proofs.Shape.{wraps-past, sum-whole}
+use borrow.Author.Needs.{needs}
 use Rattle.book.proofs.runs_past.Statement.{statement}
 use Rattle.book.proofs.runs_past.Tie as tie
 
+wrapping-add-u64-requires : tie.Need-wrapping-add-u64-requires
+wrapping-add-u64-requires c κs = search needs
+
 returns : tie.Need-returns
 returns c =
-    let a = c .before .args in
-    let h : a .n < a .start + a .length = omega (arith, c .if1 .taken) in
-    sym (lt-ltb _ _ h)
+    let a = c .before .before in
+    sym (lt-ltb _ _ (wraps-past (a .args .start) (a .args .length) _ (c .before .wrapping-add-u64 .ensures) (a .fits .start .fits) (a .fits .length .fits) (a .args .n) (a .fits .n .fits) (c .if1 .taken)))
 
 returns-2 : tie.Need-returns-2
-returns-2 c = past-room _ _ _ (c .if1 .left)
+returns-2 c =
+    let a = c .before .before in
+    rw (sum-whole (a .args .start) (a .args .length) _ (c .before .wrapping-add-u64 .ensures) (a .fits .start .fits) (a .fits .length .fits) (c .if1 .left))
 
 pub runs-past-spec : {M : Type 1} → statement M
-runs-past-spec = tie.close (tie.spec returns returns-2)
+runs-past-spec = tie.close (tie.spec wrapping-add-u64-requires returns returns-2)
