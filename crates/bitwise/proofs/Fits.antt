@@ -1,11 +1,11 @@
 -- Every operator's value has its width, at every width. Assumes nothing.
 use Prim.Native.Nat.{ℕ, zero, suc, _<_, _-_, _*_, _%_, _^_, min, max}
-use mathlib.Core.Bool.{Bool, true, false, cond}
 use native.Mathlib.Omega.{arith}
 use native.Mathlib.Nat.{mod-lt}
 use lib.Pow.{pow-pos, shr-le}
 use Rattle.bv.specs.Bits.{bit}
 use Rattle.bv.specs.Bv.{bvnot, bvand, bvor, bvxor, bvshl, bvlshr, bvashr, bvrotr, bvrotl, rotate-right, rotate-left, negative}
+use Rattle.bv.proofs.Fits.{either-lt}
 use Rattle.bitwise.proofs.Digits.{bit-lt, ofBits-fits}
 use Rattle.bitwise.proofs.Shift.{shl-law, lshr-law}
 use Rattle.bitwise.proofs.Turn.{right, left, right-fits, left-fits}
@@ -28,12 +28,8 @@ shl-fits w a b = rw (shl-law w a b) (mod-lt (a * 2 ^ b) (pow-pos w))
 pub lshr-fits : (w a b : ℕ) → a < 2 ^ w → bvlshr w a b < 2 ^ w
 lshr-fits w a b l = rw (lshr-law w a b l) (omega (arith, shr-le a b))
 
-either : (t : Bool) (x y n : ℕ) → x < n → y < n → cond t x y < n
-either true x y n p q = p
-either false x y n p q = q
-
 pub ashr-fits : (w a b : ℕ) → a < 2 ^ w → bvashr w a b < 2 ^ w
-ashr-fits w a b l = either (negative w a) _ _ _ (not-fits w (bvlshr w (bvnot w a) b)) (lshr-fits w a b l)
+ashr-fits w a b l = either-lt (negative w a) _ _ _ (not-fits w (bvlshr w (bvnot w a) b)) (lshr-fits w a b l)
 
 rotate-right-fits : (w k a : ℕ) → 0 < w → a < 2 ^ w → rotate-right w k a < 2 ^ w
 unfolding rotate-right

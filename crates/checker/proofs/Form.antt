@@ -3,7 +3,6 @@ use Prim.Native.Nat.{ℕ, _<_, _≤_}
 use mathlib.Core.Path.{_≡_, refl, sym, _∙_}
 use mathlib.Core.Bool.{Bool, true, false}
 use mathlib.Core.List.{List, [], _++_}
-use native.Mathlib.Nat.{le-antisymm}
 use native.Mathlib.Omega.{arith}
 use native.Mathlib.Decide.{decLt}
 use borrow.Author.Tests.{lt-ltb, le-ltb, ltb-true, ltb-false}
@@ -12,7 +11,7 @@ use lib.ListN.{length, drop}
 use Rattle.answers.specs.declared.Answer.{Answer}
 use Rattle.answers.specs.declared.Answer.the-variants.{Accepted, BadRow, BadBit, Ext, Core}
 use Rattle.answers.specs.Answer.{isAccepted}
-use Rattle.lists.proofs.First.{first-le}
+use Rattle.lists.proofs.First.{first-le, first-all}
 use Rattle.rows.specs.declared.Graph.{Graph}
 use Rattle.rows.specs.declared.Graph.the-variants.{Source, Target}
 use Rattle.rows.specs.Row.{rowCount}
@@ -71,8 +70,7 @@ module _ (graph : Graph) (nbits : ℕ) (side g : List ℕ) where
       go (yes l) = sym (stop-ill graph nbits side g l h)
       go (no l) =
           let past : rowCount graph g ≤ stopRow graph nbits side g = omega arith in
-          let le : stopRow graph nbits side g ≤ rowCount graph g = first-le (rowStops graph nbits side g) (rowCount graph g) in
-          le-antisymm le past ∙ sym (stop-none graph nbits side g past .1)
+          first-all (rowStops graph nbits side g) (rowCount graph g) past ∙ sym (stop-none graph nbits side g past .1)
 
   pub stop-le : stopRow graph nbits side g ≤ rowCount graph g
   stop-le = first-le (rowStops graph nbits side g) (rowCount graph g)
@@ -106,4 +104,4 @@ module _ (s eb t tb : List ℕ) (x y : ℕ) (accepts : isAccepted (firstRefusal 
 -- so the whole list of widths stands there
 pub widths-all : (graph : Graph) (nbits : ℕ) (side g ws : List ℕ) → rowCount graph g ≤ stopRow graph nbits side g
     → widthsTo graph nbits side g (stopRow graph nbits side g) ++ drop (stopRow graph nbits side g) ws ≡ widths graph nbits side g ++ drop (rowCount graph g) ws
-widths-all graph nbits side g ws h = rw (le-antisymm (stop-le graph nbits side g) h)
+widths-all graph nbits side g ws h = rw (first-all (rowStops graph nbits side g) (rowCount graph g) h)

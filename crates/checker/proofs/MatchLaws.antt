@@ -3,7 +3,6 @@ use Prim.Native.Nat.{ℕ, _<_, _≤_}
 use mathlib.Core.Path.{_≡_, refl, sym, ap, _∙_}
 use mathlib.Core.Bool.{true, false, not}
 use mathlib.Core.List.{List, [], _∷_, _++_}
-use native.Mathlib.Nat.{le-antisymm}
 use native.Mathlib.Omega.{arith}
 use borrow.Author.Tests.{eq-eqb, ne-eqb, lt-ltb, le-ltb, ltb-false}
 use lib.Dec.{ltb}
@@ -13,13 +12,12 @@ use Rattle.answers.specs.declared.Answer.the-variants.{MapLength, DeadEntry, Re
 use Rattle.answers.specs.Answer.{isAccepted}
 use Rattle.lists.proofs.Build.{build-length}
 use Rattle.lists.proofs.Choice.{no-way}
-use Rattle.lists.proofs.First.{first-le}
+use Rattle.lists.proofs.First.{first-all}
 use Rattle.rows.specs.declared.Graph.the-variants.{Target}
 use Rattle.wf.specs.Widths.{rowWidth}
 use Rattle.lowering.specs.Tables.{readCount, callCount, readClasses, callClasses, readOffsets, callOffsets}
-use Rattle.lowering.specs.Matching.{classesTo, deadEntry}
-use Rattle.matching.specs.Step.{refusedRow, rowsAnswer}
-use Rattle.lowering.specs.Check.{Lowering, sourceRows, targetRows, targetWidths, noClasses, classesOfReads, classesOfTables, classes, offsets, answerOf, mismatch, deadVariable, refuse, firstRefusal, tableAnswers, rootAnswers, matchAnswers}
+use Rattle.lowering.specs.Matching.{classesTo, refusedRow, rowsAnswer, deadEntry}
+use Rattle.lowering.specs.Check.{Lowering, sourceRows, targetRows, targetWidths, noClasses, classesOfReads, classesOfTables, classes, offsets, answerOf, mismatch, rowsRefusal, deadVariable, refuse, firstRefusal, tableAnswers, rootAnswers, matchAnswers}
 use Rattle.lowering.proofs.Inversion.{each-accepted, not-refused, all-pass, first-refused}
 use Rattle.lowering.proofs.Refusals.{refusal-append}
 use Rattle.congruence.specs.Walk.{ReadsIn, CallsIn}
@@ -32,15 +30,12 @@ module _ (L : Lowering) where
   abbrev pub tablesAnswer : Answer
   tablesAnswer = firstRefusal (tableAnswers (L .reads) (L .calls) (L .cargs) (L .target) (targetWidths L) (noClasses L))
 
-  abbrev pub rowsRefusal : Answer
-  rowsRefusal = refuse (ltb (mismatch L) (sourceRows L)) (answerOf L (mismatch L))
-
   abbrev pub rootsAnswer : Answer
   rootsAnswer = firstRefusal (rootAnswers (L .eroots) (L .map) (L .reads) (L .calls) (L .cargs) (L .target) (L .tbits) (L .troots))
 
   abbrev rest : List Answer
   rest =
-      rowsRefusal
+      rowsRefusal L
       ∷ refuse (ltb (deadVariable L) (targetRows L)) (DeadEntry (deadVariable L))
       ∷ rootAnswers (L .eroots) (L .map) (L .reads) (L .calls) (L .cargs) (L .target) (L .tbits) (L .troots)
 
@@ -60,11 +55,11 @@ module _ (L : Lowering) where
       after-tables : answer ≡ firstRefusal rest
       after-tables = after-map ∙ refusal-append (tableAnswers (L .reads) (L .calls) (L .cargs) (L .target) (targetWidths L) (noClasses L)) rest ∙ rw b
 
-      pub rows-refuse : isAccepted rowsRefusal ≡ false → answer ≡ rowsRefusal
+      pub rows-refuse : isAccepted (rowsRefusal L) ≡ false → answer ≡ rowsRefusal L
       unfolding firstRefusal
       rows-refuse e = after-tables ∙ rw e
 
-      module _ (c : isAccepted rowsRefusal ≡ true) where
+      module _ (c : isAccepted (rowsRefusal L) ≡ true) where
         pub dead-14 : deadVariable L < targetRows L → answer ≡ DeadEntry (deadVariable L)
         unfolding firstRefusal
         dead-14 h = after-tables ∙ rw (c, lt-ltb _ _ h)
@@ -74,10 +69,9 @@ module _ (L : Lowering) where
         then-roots h = after-tables ∙ rw (c, le-ltb _ _ h)
 
   -- all rows are passed
-  pub all-rows : isAccepted rowsRefusal ≡ true → mismatch L ≡ sourceRows L
+  pub all-rows : isAccepted (rowsRefusal L) ≡ true → mismatch L ≡ sourceRows L
   all-rows e =
-      le-antisymm (first-le (λ i. not (isAccepted (answerOf L i))) (sourceRows L))
-      (ltb-false _ _ (first-refused (answerOf L) (sourceRows L) _ refl e))
+      first-all (λ i. not (isAccepted (answerOf L i))) (sourceRows L) (ltb-false _ _ (first-refused (answerOf L) (sourceRows L) _ refl e))
 
   -- tables that pass are in range
   module _ (b : isAccepted tablesAnswer ≡ true) where

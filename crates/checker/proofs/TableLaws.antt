@@ -3,20 +3,19 @@ use Prim.Native.Nat.{ℕ, _<_, _≤_}
 use mathlib.Core.Path.{_≡_}
 use mathlib.Core.Bool.{not}
 use mathlib.Core.List.{List}
-use native.Mathlib.Nat.{le-antisymm}
 use borrow.Author.Tests.{lt-ltb, le-ltb}
 use Rattle.answers.specs.declared.Answer.{Answer}
 use Rattle.answers.specs.declared.Answer.the-variants.{Accepted, ReadTable, CallTable}
-use Rattle.lists.proofs.First.{first-le}
+use Rattle.lists.proofs.First.{first-all}
 use Rattle.lowering.specs.Tables.{readCount, callCount, readGood, callGood, readClasses, callClasses, badRead, badCall}
 use Rattle.lowering.specs.Check.{firstRefusal, tableAnswers}
 
 -- a table without a bad entry
 pub all-reads : (reads t ws cls : List ℕ) → readCount reads ≤ badRead reads t ws cls → badRead reads t ws cls ≡ readCount reads
-all-reads reads t ws cls h = le-antisymm (first-le (λ k. not (readGood reads t ws (readClasses reads cls k) k)) (readCount reads)) h
+all-reads reads t ws cls h = first-all (λ k. not (readGood reads t ws (readClasses reads cls k) k)) (readCount reads) h
 
 pub all-calls : (calls cargs t cls : List ℕ) → callCount calls ≤ badCall calls cargs t cls → badCall calls cargs t cls ≡ callCount calls
-all-calls calls cargs t cls h = le-antisymm (first-le (λ k. not (callGood calls cargs t (callClasses calls cls k) k)) (callCount calls)) h
+all-calls calls cargs t cls h = first-all (λ k. not (callGood calls cargs t (callClasses calls cls k) k)) (callCount calls) h
 
 module _ (reads calls cargs t ws cls : List ℕ) where
   abbrev answer : Answer

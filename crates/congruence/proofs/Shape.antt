@@ -14,7 +14,7 @@ use Rattle.lowering.specs.Images.{MAX, tagAt, fieldAt}
 use Rattle.lowering.specs.Matching.{isEq}
 use Rattle.lowering.specs.Roots.{allEqual, congruent}
 use Rattle.images.proofs.Equality.{eq-out}
-use Rattle.images.proofs.Sequences.{last-test}
+use Rattle.lists.proofs.Choice.{last-test}
 use Rattle.congruence.specs.Shape.{implies, antecedent}
 
 module _ (target : List ℕ) where

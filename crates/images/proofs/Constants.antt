@@ -12,7 +12,7 @@ use Rattle.wf.specs.Promise.{WellFormed}
 use Rattle.lowering.specs.Images.{bothConst, sameConst, unequalConst}
 use Rattle.lowering.proofs.Images.{const-row, both-const}
 use Rattle.images.specs.Bits.{BitsWithin}
-use Rattle.images.proofs.Sequences.{last-test}
+use Rattle.lists.proofs.Choice.{last-test}
 
 -- in a well-formed graph the bits of every constant lie in the list of bits
 pub bits-within : (graph : Graph) (bits side g ws : List ℕ) → WellFormed graph (length bits) side g ws

@@ -11,7 +11,7 @@ use Rattle.rows.specs.Row.{rowCount, rowAt}
 use Rattle.rows.specs.Tags.{tEq}
 use Rattle.lowering.specs.Images.{rowIs}
 use Rattle.lowering.specs.Matching.{isEq}
-use Rattle.images.proofs.Sequences.{last-test}
+use Rattle.lists.proofs.Choice.{last-test}
 
 module _ (target : List ℕ) where
   -- a row past the target is no equality

@@ -1,11 +1,14 @@
 -- Laws of the search for the first number that passes a test. Assumes nothing.
 use Prim.Native.Nat.{ℕ, zero, suc, _<_, _≤_, zero-le, suc-le-suc}
-use mathlib.Core.Path.{_≡_, refl, ap}
+use mathlib.Core.Path.{_≡_, refl, sym, ap, _∙_}
 use mathlib.Core.Bool.{Bool, true, false, cond}
-use native.Mathlib.Nat.{not-suc-le-zero, le-of-suc-le-suc}
+use mathlib.Core.Logic.{⊎-elim}
+use native.Mathlib.Nat.{not-suc-le-zero, le-of-suc-le-suc, le-antisymm}
 use native.Mathlib.Omega.{arith}
-use borrow.Author.Tests.{eq-eqb, ne-eqb, eqb-true}
+use borrow.Author.Tests.{eq-eqb, ne-eqb, eqb-true, le-ltb}
+use lib.Dec.{ltb}
 use Rattle.lists.specs.First.{first, none}
+use Rattle.lists.proofs.Choice.{no-way, lt-or-ge}
 
 -- it is at most n
 pub first-le : (p : ℕ → Bool) (n : ℕ) → first p n ≤ n
@@ -67,3 +70,25 @@ none-at p n t j h = let e : first p n ≡ n = eqb-true (first p n) n t in first-
 -- a search that has come to n without a pass
 pub first-past : (p : ℕ → Bool) (n i : ℕ) → i ≤ n → n ≤ i → ((j : ℕ) → j < i → p j ≡ false) → first p n ≡ i
 first-past p n i h l b = let e : n ≡ i = omega arith in rw e (first-none p i b)
+
+-- a search that came to its end found nothing
+pub first-all : (p : ℕ → Bool) (n : ℕ) → n ≤ first p n → first p n ≡ n
+first-all p n h = le-antisymm (first-le p n) h
+
+-- a hit is not before the first
+pub first-upto : (p : ℕ → Bool) (n k : ℕ) → p k ≡ true → first p n ≤ k
+first-upto p n k e = ⊎-elim (λ l. no-way (sym e ∙ first-before p n k l)) (λ l. l) (lt-or-ge k (first p n))
+
+-- the only hit is the first
+pub first-only : (p : ℕ → Bool) (n k : ℕ) → k < n → p k ≡ true → ((l : ℕ) → l < n → p l ≡ true → l ≡ k) → first p n ≡ k
+first-only p n k h e u =
+    let f : first p n ≤ k = first-upto p n k e in
+    u (first p n) (omega arith) (first-hit p n (omega arith))
+
+-- a search without a hit
+pub first-nowhere : (p : ℕ → Bool) (n : ℕ) → ((l : ℕ) → l < n → p l ≡ true → ⊥) → ltb (first p n) n ≡ false
+first-nowhere p n u = rw (first-none p n (λ j h. go (p j) (u j h))) (le-ltb n n (omega arith))
+  where
+    go : (b : Bool) → (b ≡ true → ⊥) → b ≡ false
+    go true f = absurd (f refl)
+    go false f = refl

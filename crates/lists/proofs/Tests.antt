@@ -1,18 +1,19 @@
--- Laws of several tests at once, of sequences and of states. Assumes nothing.
-use Prim.Native.Nat.{ℕ, zero, suc, _<_}
+-- Laws of several tests at once, of sequences and of a list's elements. Assumes nothing.
+use Prim.Native.Nat.{ℕ, zero, suc, _<_, _≤_}
 use mathlib.Core.Path.{_≡_, refl, sym, ap, _∙_}
 use mathlib.Core.Bool.{Bool, true, false, cond, not}
 use mathlib.Core.List.{List, [], _∷_}
-use native.Mathlib.Nat.{not-suc-le-zero}
+use mathlib.Core.Logic.{⊎-elim}
+use native.Mathlib.Nat.{not-suc-le-zero, le-of-suc-le-suc}
 use native.Mathlib.Omega.{arith}
-use borrow.Author.Tests.{eq-eqb, eqb-true, not-false}
+use borrow.Author.Tests.{eq-eqb, ne-eqb, eqb-true, not-false}
 use lib.Dec.{eqb}
-use lib.ListN.{length}
+use lib.ListN.{length, getD, List·getD-eq-default}
 use Rattle.lists.specs.First.{none}
 use Rattle.lists.specs.Tests.{all, agree}
 use Rattle.lists.specs.Trace.{tabulate}
-use Rattle.lists.proofs.First.{none-at, none-yes}
-use Rattle.lists.proofs.Choice.{both}
+use Rattle.lists.proofs.First.{none-at, none-yes, none-no}
+use Rattle.lists.proofs.Choice.{both, lt-or-ge}
 
 -- each test of a list passes
 abbrev pub Alls : List Bool → Type 0
@@ -31,6 +32,22 @@ agree-at f g n e k h = eqb-true (f k) (g k) (not-false _ (none-at (λ j. not (eq
 pub agree-yes : (f g : ℕ → ℕ) (n : ℕ) → ((k : ℕ) → k < n → f k ≡ g k) → agree f g n ≡ true
 unfolding agree
 agree-yes f g n h = none-yes (λ j. not (eqb (f j) (g j))) n (λ k l. ap not (eq-eqb (f k) (g k) (h k l)))
+
+-- two sequences that differ first at i
+pub agree-no : (f g : ℕ → ℕ) (n i : ℕ) → i < n → (f i ≡ g i → ⊥) → ((k : ℕ) → k < i → f k ≡ g k) → agree f g n ≡ false
+unfolding agree
+agree-no f g n i h d b =
+    none-no (λ k. not (eqb (f k) (g k))) n i h (ap not (ne-eqb (f i) (g i) d)) (λ k l. ap not (eq-eqb (f k) (g k) (b k l)))
+
+-- an element that is there does not depend on the default
+pub getD-any : (l : List ℕ) (d e i : ℕ) → i < length l → getD l i d ≡ getD l i e
+getD-any [] d e i h = absurd (not-suc-le-zero h)
+getD-any (x ∷ xs) d e zero h = refl
+getD-any (x ∷ xs) d e (suc i) h = getD-any xs d e i (le-of-suc-le-suc h)
+
+-- what holds of 0 and of each element holds at every place
+pub getD-every : (l : List ℕ) (P : ℕ → Type 0) → P 0 → ((k : ℕ) → k < length l → P (getD l k 0)) → (k : ℕ) → P (getD l k 0)
+getD-every l P z h k = ⊎-elim (h k) (λ (past : length l ≤ k). rw (List·getD-eq-default l 0 past) z) (lt-or-ge k (length l))
 
 -- a table of equal values, and back
 pub tabulate-same : {A : Type 0} (f g : ℕ → A) (n : ℕ) → ((k : ℕ) → k < n → f k ≡ g k) → tabulate f n ≡ tabulate g n

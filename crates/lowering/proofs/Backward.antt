@@ -11,7 +11,7 @@ use lib.Dec.{eqb, ltb}
 use lib.ListN.{length, getD}
 use Rattle.lists.specs.Tests.{all}
 use Rattle.lists.specs.Trace.{tabulate}
-use Rattle.lists.proofs.First.{first-hit}
+use Rattle.lists.proofs.First.{first-hit, first-upto}
 use Rattle.lists.proofs.Tests.{all-true, tabulate-same, tabulate-at, tabulate-length}
 use Rattle.rows.specs.declared.Graph.the-variants.{Target}
 use Rattle.rows.specs.declared.Node.the-variants.{Var}
@@ -29,7 +29,6 @@ use Rattle.lowering.specs.Check.{Lowering, sourceRows, targetRows}
 use Rattle.lowering.specs.Transfer.{sameVal, sameVals, readHit, callHit, readAt, callAt, interpretation}
 use Rattle.lowering.proofs.Facts.{S, m, Formed, ReadCong, CallCong, Matched, rootOf}
 use Rattle.lowering.proofs.Images.{const-row, both-const}
-use Rattle.lowering.proofs.Search.{first-upto}
 use Rattle.lowering.proofs.Tells.{tv, row-value, row-width, cong-tells, tells-out, val-ext}
 use Rattle.lowering.proofs.Agree.{sv, Agree, LeafRead, LeafCall, agree-rows, unequal-numbers}
 use Rattle.lowering.proofs.Forward.{of-var}

@@ -10,7 +10,7 @@ use lib.Dec.{eqb, ltb}
 use lib.ListN.{length, getD}
 use Rattle.lists.specs.Tests.{all}
 use Rattle.lists.specs.Trace.{tabulate}
-use Rattle.lists.proofs.First.{first-hit}
+use Rattle.lists.proofs.First.{first-hit, first-upto, first-only, first-nowhere}
 use Rattle.lists.proofs.Tests.{all-true, tabulate-same}
 use Rattle.rows.specs.declared.Graph.the-variants.{Source, Target}
 use Rattle.rows.specs.declared.Node.the-variants.{Var}
@@ -27,7 +27,6 @@ use Rattle.lowering.specs.Check.{Lowering, sourceRows}
 use Rattle.lowering.specs.Transfer.{origin, isOrigin, varOrigin, readOf, callOf, originValue, readCell, callResult, assignment}
 use Rattle.lowering.proofs.Facts.{S, T, m, Mapped, Formed, Owner, by-var, by-read, by-call, ReadPair, CallPair, Matched, rootOf}
 use Rattle.lowering.proofs.Images.{var-row}
-use Rattle.lowering.proofs.Search.{first-upto, first-only, first-nowhere}
 use Rattle.lowering.proofs.Tells.{tv, row-value, cong-tells, cong-width, tells-in}
 use Rattle.lowering.proofs.Agree.{sv, Agree, LeafRead, LeafCall, agree-rows}
 

@@ -1,5 +1,4 @@
 pub mod Cases
-pub mod Search
 pub mod Refusals
 pub mod Passed
 pub mod Inversion

@@ -12,7 +12,7 @@ use lib.ListN.{length, getD}
 use Rattle.lists.specs.First.{first}
 use Rattle.lists.specs.Tests.{all}
 use Rattle.lists.proofs.Choice.{strong, no-way}
-use Rattle.lists.proofs.First.{first-hit}
+use Rattle.lists.proofs.First.{first-hit, first-upto}
 use Rattle.lists.proofs.Tests.{all-true}
 use Rattle.rows.specs.declared.Graph.the-variants.{Source}
 use Rattle.rows.specs.declared.Node.{Node}
@@ -31,7 +31,6 @@ use Rattle.lowering.specs.Matching.{isLevel, walk}
 use Rattle.lowering.specs.Check.{Lowering, sourceRows, targetRows, sourceWidths}
 use Rattle.lowering.proofs.Facts.{S, T, m, Mapped, Formed, SameCore, Ends, walkOf, Found, Owner, by-var, by-read, by-call, Owns, Matched}
 use Rattle.lowering.proofs.Passed.{Passed}
-use Rattle.lowering.proofs.Search.{first-upto}
 use Rattle.lowering.proofs.Images.{eq-row, ite-row}
 use Rattle.lowering.proofs.Values.{Pairs, pairs-formed}
 use Rattle.lowering.proofs.Classes.{usedEnd, usedAt, used, Uses, Used}

@@ -12,7 +12,7 @@ use Rattle.answers.specs.declared.Answer.{Answer}
 use Rattle.answers.specs.declared.Answer.the-variants.{Accepted, MapOutOfRange}
 use Rattle.answers.specs.Answer.{isAccepted}
 use Rattle.lists.specs.Tests.{all}
-use Rattle.lists.proofs.Choice.{no-way}
+use Rattle.lists.proofs.Choice.{no-way, lt-or-ge}
 use Rattle.lists.proofs.Tests.{all-true}
 use Rattle.rows.specs.declared.Graph.the-variants.{Target}
 use Rattle.rows.specs.Row.{rowAt}
@@ -22,7 +22,7 @@ use Rattle.lowering.specs.Matching.{rowAnswer}
 use Rattle.lowering.specs.Roots.{Pair, pair, pairs, leads, readsNeed, rootAt, readRoot, callRoot}
 use Rattle.lowering.specs.Check.{Lowering, sourceRows, targetRows, callRoots}
 use Rattle.lowering.proofs.Facts.{m, Mapped, ReadCong, CallCong, ReadPair, CallPair, rootOf}
-use Rattle.lowering.proofs.Pairs.{At, Needed, lt-or-ge, pairs-has, pairs-only}
+use Rattle.lowering.proofs.Pairs.{At, Needed, pairs-has, pairs-only}
 use Rattle.lowering.proofs.Passed.{Passed}
 
 -- the roots of a list of pairs stand from a place on

@@ -8,13 +8,12 @@ use lib.ListN.{length, replicate}
 use Rattle.answers.specs.declared.Answer.{Answer}
 use Rattle.answers.specs.declared.Answer.the-variants.{Accepted, Ext, Core, RowCount, BadRow, BadBit, WorkShort, MapLength, ReadTable, CallTable, DeadEntry, RootMismatch, CongruenceMismatch}
 use Rattle.answers.specs.Answer.{isAccepted, lent}
-use Rattle.lists.specs.First.{first}
 use Rattle.rows.specs.declared.Graph.the-variants.{Source, Target}
 use Rattle.rows.specs.Row.{rowCount, ragged}
 use Rattle.rows.specs.Encoding.{badRow, badBit}
 use Rattle.wf.specs.Widths.{illRow, widths}
 use Rattle.lowering.specs.Tables.{readCount, callCount, badRead, badCall, readClasses, callClasses, readOffsets, callOffsets}
-use Rattle.lowering.specs.Matching.{rowAnswer, classesTo, deadEntry}
+use Rattle.lowering.specs.Matching.{rowAnswer, classesTo, refusedRow, rowsAnswer, deadEntry}
 use Rattle.lowering.specs.Roots.{Pair, badLead, readPairs, callPairs, readRoot, callRoot, badCong}
 
 -- what Check is asked: the eleven lists of `check_sliver_lowering`, in its order (its `e` and `t` are the source and the target)
@@ -70,13 +69,16 @@ module _ (L : Lowering) where
   abbrev pub offsets : List ℕ
   offsets = callOffsets (L .calls) (readOffsets (L .reads) (replicate targetRows 0) (readCount (L .reads))) (callCount (L .calls))
 
-  -- the answer of row i, and the first row that is refused
+  -- the answer of row i, the first row that is refused, and the answer of all rows
   abbrev pub answerOf : ℕ → Answer
   answerOf i =
       rowAnswer (L .source) (L .ebits) (L .eside) (L .map) (L .reads) (L .calls) (L .cargs) (L .target) (L .tbits) offsets (classes i) i
 
   abbrev pub mismatch : ℕ
-  mismatch = first (λ i. not (isAccepted (answerOf i))) sourceRows
+  mismatch = refusedRow (L .source) (L .ebits) (L .eside) (L .map) (L .reads) (L .calls) (L .cargs) (L .target) (L .tbits) offsets classesOfTables
+
+  abbrev pub rowsRefusal : Answer
+  rowsRefusal = rowsAnswer (L .source) (L .ebits) (L .eside) (L .map) (L .reads) (L .calls) (L .cargs) (L .target) (L .tbits) offsets classesOfTables
 
   abbrev pub deadVariable : ℕ
   deadVariable = deadEntry (classes sourceRows) targetRows
@@ -159,7 +161,7 @@ abbrev pub matchAnswers : Lowering → List Answer
 matchAnswers L =
     refuse (not (eqb (length (L .map)) (sourceRows L))) (MapLength (sourceRows L) (length (L .map)))
     ∷ tableAnswers (L .reads) (L .calls) (L .cargs) (L .target) (targetWidths L) (noClasses L)
-    ++ (refuse (ltb (mismatch L) (sourceRows L)) (answerOf L (mismatch L))
+    ++ (rowsRefusal L
     ∷ refuse (ltb (deadVariable L) (targetRows L)) (DeadEntry (deadVariable L))
     ∷ rootAnswers (L .eroots) (L .map) (L .reads) (L .calls) (L .cargs) (L .target) (L .tbits) (L .troots))
 

@@ -1,11 +1,12 @@
 -- How a source row is matched with its image, and the classes that follow (01, 'How a row is matched'). Assumes nothing.
 use Prim.Native.Nat.{ℕ, zero, suc, _+_}
-use mathlib.Core.Bool.{Bool, false, cond}
+use mathlib.Core.Bool.{Bool, false, cond, not}
 use mathlib.Core.List.{List, [], _∷_}
 use lib.Dec.{eqb, ltb, leb}
 use lib.ListN.{length, getD, set}
 use Rattle.answers.specs.declared.Answer.{Answer}
 use Rattle.answers.specs.declared.Answer.the-variants.{Accepted, MapOutOfRange, VarClass, ConstMismatch, NodeMismatch, ChainMismatch, CallMismatch}
+use Rattle.answers.specs.Answer.{isAccepted}
 use Rattle.lists.specs.First.{first}
 use Rattle.lists.specs.Tests.{all, agree}
 use Rattle.lists.specs.Trace.{trace}
@@ -137,6 +138,20 @@ rowClasses source ebits eside map target i cls =
 -- "Rows go in order": the classes before row n
 abbrev pub classesTo : List ℕ → List ℕ → List ℕ → List ℕ → List ℕ → List ℕ → ℕ → List ℕ
 classesTo source ebits eside map target cls n = trace (rowClasses source ebits eside map target) cls n
+
+-- the first row that is refused, or the number of rows; cls are the classes before the rows
+abbrev pub refusedRow : List ℕ → List ℕ → List ℕ → List ℕ → List ℕ → List ℕ → List ℕ → List ℕ → List ℕ → List ℕ → List ℕ → ℕ
+refusedRow source ebits eside map reads calls cargs target tbits ent cls =
+    first (λ i. not (isAccepted (rowAnswer source ebits eside map reads calls cargs target tbits ent (classesTo source ebits eside map target cls i) i)))
+    (rowCount Source source)
+
+-- the answer of all rows: the first refusal
+abbrev pub rowsAnswer : List ℕ → List ℕ → List ℕ → List ℕ → List ℕ → List ℕ → List ℕ → List ℕ → List ℕ → List ℕ → List ℕ → Answer
+rowsAnswer source ebits eside map reads calls cargs target tbits ent cls =
+    let i = refusedRow source ebits eside map reads calls cargs target tbits ent cls in
+    cond (ltb i (rowCount Source source))
+    (rowAnswer source ebits eside map reads calls cargs target tbits ent (classesTo source ebits eside map target cls i) i)
+    Accepted
 
 -- "Afterwards no class may be 2 or 3": the first variable of such a class, or the number of rows
 abbrev pub deadEntry : List ℕ → ℕ → ℕ

@@ -4,21 +4,16 @@ use mathlib.Core.Path.{_≡_, refl, sym, _∙_}
 use mathlib.Core.Bool.{Bool, true, false, cond, not}
 use mathlib.Core.List.{List}
 use native.Mathlib.Numerals.{add-one}
-use native.Mathlib.Omega.{arith}
 use borrow.Author.Count.{below-more}
-use borrow.Author.Tests.{lt-ltb, le-ltb, ltb-true, ltb-false, not-true, not-false}
-use lib.Dec.{ltb}
+use borrow.Author.Tests.{lt-ltb, le-ltb, not-true, not-false}
 use Rattle.answers.specs.declared.Answer.{Answer}
 use Rattle.answers.specs.declared.Answer.the-variants.{Accepted}
 use Rattle.answers.specs.Answer.{isAccepted}
-use Rattle.lists.specs.First.{first}
 use Rattle.lists.specs.Trace.{trace}
-use Rattle.lists.proofs.Choice.{no-way}
-use Rattle.lists.proofs.First.{first-le, first-hit, first-at, first-past}
+use Rattle.lists.proofs.First.{first-at, first-past}
 use Rattle.rows.specs.declared.Graph.the-variants.{Source}
 use Rattle.rows.specs.Row.{rowCount}
-use Rattle.lowering.specs.Matching.{rowAnswer, rowClasses, classesTo}
-use Rattle.matching.specs.Step.{refusedRow, rowsAnswer}
+use Rattle.lowering.specs.Matching.{rowAnswer, rowClasses, classesTo, refusedRow, rowsAnswer}
 
 module _ (source ebits eside map reads calls cargs target tbits ent cls : List ℕ) where
   -- the classes before row i, its answer, and whether it is refused
@@ -64,16 +59,3 @@ module _ (source ebits eside map reads calls cargs target tbits ent cls : List �
     rows-end l g =
         let e : stop ≡ i = first-past refused count i l g passed in
         (sym (rw (e, le-ltb i count g)), o ∙ rw e)
-
-  -- acceptance means that no row is refused
-  pub rows-whole : isAccepted whole ≡ true → stop ≡ count
-  rows-whole x = go (ltb stop count) refl
-    where
-      go : (b : Bool) → ltb stop count ≡ b → stop ≡ count
-      go true e =
-          let y : isAccepted (answer stop) ≡ true = rw e at x in
-          no-way (sym y ∙ not-true (isAccepted (answer stop)) (first-hit refused count (ltb-true stop count e)))
-      go false e =
-          let l = first-le refused count in
-          let g = ltb-false stop count e in
-          omega (arith, l, g)

@@ -3,6 +3,7 @@ use mathlib.Core.Path.{_≡_, refl}
 use mathlib.Core.Bool.{Bool, true, false, not}
 use mathlib.Core.List.{List, [], _∷_}
 use Rattle.lists.specs.Tests.{all}
+use Rattle.lists.proofs.Choice.{last-test}
 
 -- the first test fails, or passes and leaves the others; two or three in one
 module _ (more : List Bool) where
@@ -30,8 +31,7 @@ module _ (more : List Bool) where
 -- one test alone
 pub alone : (b : Bool) → b ≡ all (b ∷ [])
 unfolding all
-alone true = refl
-alone false = refl
+alone b = last-test b
 
 pub not-not : (b : Bool) → not (not b) ≡ b
 not-not true = refl

@@ -1,12 +1,17 @@
 -- What a row's tag says of its node. Assumes nothing.
-use Prim.Native.Nat.{ℕ, _<_}
+use Prim.Native.Nat.{ℕ, _<_, _≤_}
 use mathlib.Core.Path.{_≡_, refl}
 use mathlib.Core.Bool.{Bool, true, false, cond}
 use mathlib.Core.List.{List}
 use native.Mathlib.Omega.{arith}
-use borrow.Author.Tests.{eqb-true, ltb-false}
+use borrow.Author.Tests.{eqb-true, ltb-true, ltb-false, not-false}
 use lib.Dec.{eqb, ltb}
 use lib.ListN.{getD}
+use Rattle.lists.proofs.Choice.{both}
+use Rattle.lists.proofs.First.{first-before}
+use Rattle.rows.specs.declared.Graph.the-variants.{Target}
+use Rattle.rows.specs.Row.{rowCount, rowAt}
+use Rattle.rows.specs.Encoding.{rowGood, rowBad, badRow}
 use Rattle.rows.specs.declared.Node.the-variants.{Var, Const, Un, Bin, Extract, Extend, Ite, Select, Call, Unknown}
 use Rattle.rows.specs.Tags.{tVar, tConst, tExtract, tIte, tSelect, tCall, isUn, isExtend}
 use Rattle.rows.specs.Node.{nodeFrom, nodeOf}
@@ -30,6 +35,12 @@ from-core t a b c d h = go _ _ _ _ _ _ _ _ _ refl refl refl refl refl refl refl 
 -- a core tag gives a core node
 pub node-core : (r : List ℕ) → getD r 0 0 < 37 → tagOf (nodeOf r) < 37
 node-core r h = from-core (getD r 0 0) (getD r 1 0) (getD r 2 0) (getD r 3 0) (getD r 4 0) h
+
+-- the rows of a target without a bad row are core rows
+pub core-rows : (g : List ℕ) → rowCount Target g ≤ badRow Target g → (r : ℕ) → r < rowCount Target g → tagOf (nodeOf (rowAt Target g r)) < 37
+core-rows g h r l =
+    let good = not-false (rowGood Target (rowAt Target g r)) (first-before (rowBad Target g) (rowCount Target g) r (omega arith)) in
+    node-core (rowAt Target g r) (ltb-true (getD (rowAt Target g r) 0 0) 37 (both _ _ good .0))
 
 from-var : (t a b c d w : ℕ) → nodeFrom t a b c d ≡ Var w → (t ≡ tVar) × (a ≡ w)
 from-var t a b c d w h =

@@ -3,55 +3,43 @@ use Prim.Native.Nat.{ℕ, _<_, _≤_, _^_}
 use mathlib.Core.Path.{_≡_, refl, sym}
 use mathlib.Core.Bool.{Bool, true, false, cond}
 use mathlib.Core.List.{List, []}
-use native.Mathlib.Decide.{decLt}
 use native.Mathlib.Omega.{arith}
 use borrow.Author.Tests.{eqb-true, eq-eqb, ltb-true, ltb-false, not-false}
 use lib.Dec.{eqb, ltb}
-use lib.ListN.{length, getD, List·getD-eq-default}
+use lib.ListN.{length, getD}
 use Rattle.answers.specs.declared.Answer.the-variants.{Accepted, Core, BadRow, BadBit, TooWide, ValueCount, ValueRange}
 use Rattle.answers.specs.Answer.{isAccepted}
 use Rattle.evaluate.specs.Ready.{Evaluable}
-use Rattle.lists.proofs.Choice.{no-way, both}
+use Rattle.lists.proofs.Choice.{no-way}
 use Rattle.lists.proofs.First.{first-before}
 use Rattle.lists.proofs.Build.{build-length}
+use Rattle.lists.proofs.Tests.{getD-every}
 use Rattle.rows.specs.declared.Graph.the-variants.{Target}
 use Rattle.rows.specs.declared.Node.the-variants.{Var}
 use Rattle.rows.specs.Row.{rowCount, rowAt}
 use Rattle.rows.specs.Node.{nodeOf}
-use Rattle.rows.specs.Encoding.{rowGood, rowBad, badRow, bitBad, badBit}
-use Rattle.value.specs.Operate.{tagOf}
-use Rattle.value.proofs.Tagged.{node-core, node-var}
+use Rattle.rows.specs.Encoding.{badRow, badBit}
+use Rattle.rows.proofs.Encoding.{clean}
+use Rattle.value.proofs.Tagged.{core-rows, node-var}
 use Rattle.wf.specs.Widths.{illRow, widths, rowWidth}
 use Rattle.wf.proofs.Promise.{well-formed}
 use Rattle.widths.specs.Widths.{rowsAnswer}
 use Rattle.values.specs.Values.{rowWide, wideRow, wordBad, badWord, givenAnswer}
 
 -- an accepted answer failed each of its tests
-rows-tests : (p q r : Bool) (a b d row : ℕ) → isAccepted (cond p (BadRow a d) (cond q (BadBit b d) (cond r (Core row) Accepted))) ≡ true
+pub rows-tests : (p q r : Bool) (a b d row : ℕ) → isAccepted (cond p (BadRow a d) (cond q (BadBit b d) (cond r (Core row) Accepted))) ≡ true
     → (p ≡ false) × (q ≡ false) × (r ≡ false)
 rows-tests true q r a b d row e = no-way (sym e)
 rows-tests false true r a b d row e = no-way (sym e)
 rows-tests false false true a b d row e = no-way (sym e)
 rows-tests false false false a b d row e = (refl, refl, refl)
 
-given-tests : (p q r : Bool) (a b d f : ℕ) → isAccepted (cond p (TooWide a) (cond q (cond r (ValueRange b) Accepted) (ValueCount d f))) ≡ true
+pub given-tests : (p q r : Bool) (a b d f : ℕ) → isAccepted (cond p (TooWide a) (cond q (cond r (ValueRange b) Accepted) (ValueCount d f))) ≡ true
     → (p ≡ false) × (q ≡ true) × (r ≡ false)
 given-tests true q r a b d f e = no-way (sym e)
 given-tests false true true a b d f e = no-way (sym e)
 given-tests false true false a b d f e = (refl, refl, refl)
 given-tests false false r a b d f e = no-way (sym e)
-
--- what holds below a length and at 0 holds of every entry of a list
-entries : (l : List ℕ) (P : ℕ → Type 0) → P 0 → ((k : ℕ) → k < length l → P (getD l k 0)) → (k : ℕ) → P (getD l k 0)
-entries l P z h k = go (decLt k (length l))
-  where
-    go : Dec (k < length l) → P (getD l k 0)
-    go (yes s) = h k s
-    go (no s) = let past : length l ≤ k = omega arith in rw (List·getD-eq-default l 0 past) z
-
-good-core : (g : List ℕ) (i : ℕ) → rowBad Target g i ≡ false → tagOf (nodeOf (rowAt Target g i)) < 37
-good-core g i e =
-    node-core (rowAt Target g i) (ltb-true (getD (rowAt Target g i) 0 0) 37 (both _ _ (not-false (rowGood Target (rowAt Target g i)) e) .0))
 
 module _ (g bits given : List ℕ) (rows : isAccepted (rowsAnswer Target g bits (illRow Target (length bits) [] g)) ≡ true)
     (words : isAccepted (givenAnswer g (widths Target (length bits) [] g) given) ≡ true) where
@@ -68,12 +56,9 @@ module _ (g bits given : List ℕ) (rows : isAccepted (rowsAnswer Target g bits 
   pub width-count : length (widths Target (length bits) [] g) ≡ rowCount Target g
   width-count = build-length (rowWidth Target (length bits) [] g) (rowCount Target g)
 
-  clean : (k : ℕ) → getD bits k 0 < 2
-  clean = entries bits (λ x. x < 2) (omega arith) (λ k h. let f = ltb-false 1 (getD bits k 0) (first-before (bitBad bits) (length bits) k (omega (arith, rows-passed .1))) in omega arith)
-
   narrow : (a : ℕ) → getD (widths Target (length bits) [] g) a 0 ≤ 64
   narrow =
-      entries (widths Target (length bits) [] g) (λ x. x ≤ 64) (omega arith)
+      getD-every (widths Target (length bits) [] g) (λ x. x ≤ 64) (omega arith)
       (λ k h. ltb-false 64 _ (first-before (rowWide (widths Target (length bits) [] g)) (rowCount Target g) k (omega (arith, words-passed .0, width-count))))
 
   fit : (i w : ℕ) → i < rowCount Target g → nodeOf (rowAt Target g i) ≡ Var w → getD given i 0 < 2 ^ w
@@ -87,8 +72,8 @@ module _ (g bits given : List ℕ) (rows : isAccepted (rowsAnswer Target g bits 
       record {
         formed = well-formed Target (length bits) [] g (rows-passed .2);
         narrow = narrow;
-        clean = clean;
-        core = λ i h. good-core g i (first-before (rowBad Target g) (rowCount Target g) i (omega (arith, rows-passed .0)));
+        clean = clean bits (rows-passed .1);
+        core = core-rows g (rows-passed .0);
         assigns = fit;
         widths = width-count;
         words = words-passed .1;

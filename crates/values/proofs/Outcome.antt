@@ -1,6 +1,6 @@
 -- The outcome of Values, refusal by refusal. Assumes nothing.
 use Prim.Native.Nat.{ℕ, _-_, _<_, _≤_}
-use mathlib.Core.Path.{_≡_, refl, sym, ap, ap₂, _∙_}
+use mathlib.Core.Path.{_≡_, refl, ap, ap₂, _∙_}
 use mathlib.Core.Bool.{Bool, true, false, cond}
 use mathlib.Core.List.{List, [], _++_}
 use borrow.Author.Tests.{lt-ltb, le-ltb}
@@ -17,6 +17,7 @@ use Rattle.rows.specs.Row.{rowCount, ragged}
 use Rattle.rows.specs.Encoding.{badRow, badBit}
 use Rattle.wf.specs.Widths.{illRow, widths, rowWidth}
 use Rattle.widths.specs.Widths.{rowsAnswer}
+use Rattle.values.proofs.Given.{given-tests}
 use Rattle.values.specs.Values.{wideRow, badWord, givenAnswer, valuesAnswer, numbersOf, out, values}
 
 -- a refusal for the rows, and one for the words given, zero a list
@@ -39,10 +40,7 @@ given-zero false false r a b d f old new e = refl
 -- an accepted answer is Accepted
 given-yes : (p q r : Bool) (a b d f : ℕ) → isAccepted (cond p (TooWide a) (cond q (cond r (ValueRange b) Accepted) (ValueCount d f))) ≡ true
     → cond p (TooWide a) (cond q (cond r (ValueRange b) Accepted) (ValueCount d f)) ≡ Accepted
-given-yes true q r a b d f e = no-way (sym e)
-given-yes false true true a b d f e = no-way (sym e)
-given-yes false true false a b d f e = refl
-given-yes false false r a b d f e = no-way (sym e)
+given-yes p q r a b d f e = let (x, y, z) = given-tests p q r a b d f e in rw (x, y, z)
 
 module _ (g bits given ws vs : List ℕ) where
   -- the outcome is settled by the answer

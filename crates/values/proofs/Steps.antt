@@ -1,6 +1,6 @@
 -- What the widths operation and the evaluation leave, for the operation above them. Assumes nothing.
 use Prim.Native.Nat.{ℕ, _-_, _≤_}
-use mathlib.Core.Path.{_≡_, refl, sym, ap, _∙_}
+use mathlib.Core.Path.{_≡_, ap, _∙_}
 use mathlib.Core.Bool.{Bool, true, false, cond}
 use mathlib.Core.List.{List, [], _++_}
 use borrow.Author.Tests.{le-ltb}
@@ -11,7 +11,6 @@ use Rattle.answers.specs.declared.Answer.the-variants.{Accepted, Core, BadRow, 
 use Rattle.answers.specs.Answer.{lent, isAccepted}
 use Rattle.evaluate.specs.Ready.{numbersTo}
 use Rattle.evaluate.proofs.Rows.{numbers-front}
-use Rattle.lists.proofs.Choice.{no-way}
 use Rattle.lists.proofs.Build.{build-length, build-front}
 use Rattle.rows.specs.declared.Graph.the-variants.{Target}
 use Rattle.rows.specs.Row.{rowCount, ragged}
@@ -19,14 +18,12 @@ use Rattle.rows.specs.Encoding.{badRow, badBit}
 use Rattle.wf.specs.Widths.{illRow, widths, rowWidth}
 use Rattle.widths.specs.Widths.{Out, out, rowsAnswer, targetWidths}
 use Rattle.values.specs.Values.{numbersOf}
+use Rattle.values.proofs.Given.{rows-tests}
 use Rattle.values.proofs.Outcome.{rows-zero}
 
 rows-yes : (p q r : Bool) (a b d row : ℕ) → isAccepted (cond p (BadRow a d) (cond q (BadBit b d) (cond r (Core row) Accepted))) ≡ true
     → cond p (BadRow a d) (cond q (BadBit b d) (cond r (Core row) Accepted)) ≡ Accepted
-rows-yes true q r a b d row e = no-way (sym e)
-rows-yes false true r a b d row e = no-way (sym e)
-rows-yes false false true a b d row e = no-way (sym e)
-rows-yes false false false a b d row e = refl
+rows-yes p q r a b d row e = let (x, y, z) = rows-tests p q r a b d row e in rw (x, y, z)
 
 -- the widths operation on a whole target with room: its answer and its list
 module _ (g bits ws : List ℕ) (a : Answer) (l : List ℕ) (done : out a l ≡ targetWidths g bits ws) (whole : ragged Target g ≡ false)

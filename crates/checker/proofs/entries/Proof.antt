@@ -1,6 +1,7 @@
 -- `checker::entries` meets its contract. Assumes nothing.
 use Prim.Native.Nat.{_≤_}
-use mathlib.Core.Path.{sym, _∙_}
+use mathlib.Core.Path.{sym, ap, _∙_}
+use Rattle.answers.specs.declared.Answer.the-variants.{ReadTable, CallTable}
 use Rattle.lists.proofs.Choice.{no-way}
 use Rattle.lowering.specs.Tables.{readCount, badRead}
 use Rattle.checker.proofs.TableLaws.{all-reads, all-calls, read-5, call-6, tables-good}
@@ -24,7 +25,7 @@ returns : tie.Need-returns
 returns c =
     let s = c .before .before .before .before .before .before .before .before .before .before .before .before .before .before .before .before .args in
     let r = c .before .before .before .before .before .before .read-entries .ensures in
-    (rw (r .0) (sym (read-5 (s .reads .now) (s .calls .now) (s .cargs .now) (s .target .now) (s .ws .now) (s .cls .now) (rw (r .0, c .before .read-count .ensures) at (c .if1 .taken)))), (λ h. no-way (sym h), λ h. no-way (sym h)))
+    (ap ReadTable (r .0) ∙ sym (read-5 (s .reads .now) (s .calls .now) (s .cargs .now) (s .target .now) (s .ws .now) (s .cls .now) (rw (r .0, c .before .read-count .ensures) at (c .if1 .taken))), (λ h. no-way (sym h), λ h. no-way (sym h)))
 
 call-entries-requires : tie.Need-call-entries-requires
 call-entries-requires c κs = search needs
@@ -48,7 +49,7 @@ returns-2 c =
     let offs = rw (r .0, all) at (r .1 .1) in
     let k = c .before .before .before .before .before .before .call-entries .ensures in
     let bad = rw marked at (k .0) in
-    (rw bad (sym (call-6 (s .reads .now) (s .calls .now) (s .cargs .now) (s .target .now) (s .ws .now) (s .cls .now) a (rw (bad, c .before .call-count .ensures) at (c .if2 .taken)))), (λ h. no-way (sym h), λ h. no-way (sym h)))
+    (ap CallTable bad ∙ sym (call-6 (s .reads .now) (s .calls .now) (s .cargs .now) (s .target .now) (s .ws .now) (s .cls .now) a (rw (bad, c .before .call-count .ensures) at (c .if2 .taken))), (λ h. no-way (sym h), λ h. no-way (sym h)))
 
 same-length-5 : tie.Need-same-length-5
 same-length-5 c = search needs

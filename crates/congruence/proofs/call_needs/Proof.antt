@@ -1,7 +1,7 @@
 -- `congruence::call_needs` meets its contract. Assumes nothing.
 use borrow.Author.Tests.{eq-eqb, ne-eqb}
 use Rattle.lists.specs.Tests.{all}
-use Rattle.images.proofs.Sequences.{last-test}
+use Rattle.lists.proofs.Choice.{last-test}
 use borrow.Author.Needs.{needs}
 use Rattle.congruence.proofs.call_needs.Statement.{statement}
 use Rattle.congruence.proofs.call_needs.Tie as tie

@@ -8,7 +8,7 @@ use Rattle.lowering.specs.Images.{MAX}
 use borrow.Author.Tests.{lt-ltb, le-ltb}
 use Rattle.lists.specs.Tests.{all}
 use Rattle.lowering.specs.Roots.{congruent}
-use Rattle.images.proofs.Sequences.{last-test}
+use Rattle.lists.proofs.Choice.{last-test}
 use Rattle.congruence.proofs.Shape.{by-antecedent}
 use borrow.Author.Needs.{needs}
 use Rattle.congruence.proofs.call_stands.Statement.{statement}

@@ -3,7 +3,7 @@ use mathlib.Core.Path.{_∙_, sym}
 use borrow.Author.Tests.{eq-eqb, ne-eqb, lt-ltb, le-ltb}
 use Rattle.lists.specs.Tests.{all}
 use Rattle.lowering.specs.Roots.{leads}
-use Rattle.images.proofs.Sequences.{last-test}
+use Rattle.lists.proofs.Choice.{last-test}
 use borrow.Author.Needs.{needs}
 use Rattle.congruence.proofs.root_leads.Statement.{statement}
 use Rattle.congruence.proofs.root_leads.Tie as tie

@@ -3,7 +3,7 @@ use borrow.Author.Needs.{needs}
 use borrow.Author.Tests.{eq-eqb, ne-eqb}
 use Rattle.lists.specs.Tests.{all}
 use Rattle.lowering.specs.Images.{bothConst}
-use Rattle.images.proofs.Sequences.{last-test}
+use Rattle.lists.proofs.Choice.{last-test}
 use Rattle.images.proofs.both_const.Statement.{statement}
 use Rattle.images.proofs.both_const.Tie as tie
 

@@ -2,7 +2,7 @@
 use mathlib.Core.Path.{sym}
 use borrow.Author.Needs.{needs}
 use lib.ListN.{List·getD-eq-default}
-use Rattle.images.proofs.Sequences.{getD-any}
+use Rattle.lists.proofs.Tests.{getD-any}
 use Rattle.images.proofs.map_at.Statement.{statement}
 use Rattle.images.proofs.map_at.Tie as tie
 

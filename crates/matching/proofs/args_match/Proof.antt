@@ -5,8 +5,7 @@ use native.Mathlib.Nat.{not-suc-le-zero}
 use native.Mathlib.Omega.{arith}
 use borrow.Author.Count.{below-more}
 use lib.ListN.{getD}
-use Rattle.lists.proofs.Tests.{agree-yes}
-use Rattle.images.proofs.Sequences.{agree-no}
+use Rattle.lists.proofs.Tests.{agree-yes, agree-no}
 use Rattle.lowering.specs.Images.{mapAt}
 use borrow.Author.Needs.{needs}
 use Rattle.matching.proofs.args_match.Statement.{statement}

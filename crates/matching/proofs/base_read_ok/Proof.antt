@@ -2,7 +2,7 @@
 use native.Mathlib.Omega.{arith}
 use lib.ListN.{length, getD}
 use borrow.Author.Tests.{lt-ltb, le-ltb, eq-eqb, ne-eqb}
-use Rattle.images.proofs.Sequences.{last-test}
+use Rattle.lists.proofs.Choice.{last-test}
 use Rattle.lists.specs.Tests.{all}
 use Rattle.lowering.specs.Matching.{endGood}
 use Rattle.matching.proofs.Laws.{tested-no, tested-yes, within-le}

@@ -6,8 +6,7 @@ use native.Mathlib.Omega.{arith}
 use borrow.Author.Count.{below-more}
 use borrow.Author.Needs.{needs}
 use lib.ListN.{getD}
-use Rattle.lists.proofs.Tests.{agree-yes}
-use Rattle.images.proofs.Sequences.{agree-no}
+use Rattle.lists.proofs.Tests.{agree-yes, agree-no}
 use Rattle.tables.proofs.args_eq.Statement.{statement}
 use Rattle.tables.proofs.args_eq.Tie as tie
 

@@ -1,30 +1,27 @@
 -- `tables::call_entries` meets its contract: the entries before k are good, and both lists have their marks. Assumes nothing.
-use Prim.Native.Nat.{ℕ, _≤_, _<_, _*_, _+_, _-_}
-use mathlib.Core.Path.{_≡_, refl, _∙_, sym, ap}
-use mathlib.Core.Bool.{true, false, not}
-use native.Mathlib.Nat.{not-suc-le-zero}
+use Prim.Native.Nat.{_≤_, _<_, _+_, _-_}
+use mathlib.Core.Path.{_≡_, _∙_, sym}
+use mathlib.Core.Bool.{true}
 use native.Mathlib.Omega.{arith}
-use borrow.Author.Count.{below-more}
 use borrow.Author.Needs.{needs}
 use borrow.Author.Tests.{not-false}
-use lib.ListN.{length, getD, length-set}
-use Rattle.lists.proofs.First.{first-at, first-past}
-use Rattle.lowering.specs.Tables.{callCount, callGood, callClasses, callOffsets}
-use Rattle.tables.proofs.Marks.{marks-none, marks-more}
+use lib.ListN.{length, getD}
+use Rattle.lowering.specs.Tables.{callCount, callGood}
+use Rattle.tables.proofs.Marks.{Marked, marked-none, marked-stop, marked-more, marked-end}
 use Rattle.tables.proofs.CallTable.{call-good, args-within}
 use Rattle.tables.proofs.call_entries.Statement.{statement}
 use Rattle.tables.proofs.call_entries.Tie as tie
 
 abbrev Inv-loop : tie.InvT-loop
-Inv-loop calls cargs target cls₀ ent₀ m off₀ k₀ cls ent off k =
-    (off ≡ k * 4) × (k ≤ callCount calls) × (length cls ≡ length cls₀) × (length ent ≡ length ent₀) × (cls ≡ callClasses calls cls₀ k) × (ent ≡ callOffsets calls ent₀ k) ×
-    ((j : ℕ) → j < k → not (callGood calls cargs target (callClasses calls cls₀ j) j) ≡ false)
+Inv-loop calls cargs target cls₀ ent₀ m off₀ k₀ cls ent off k = Marked calls 4 (callCount calls) 3 (callGood calls cargs target) cls₀ ent₀ cls ent off k
 
 abbrev μ-loop : tie.MeasureT-loop
 μ-loop calls cargs target cls₀ ent₀ m off₀ k₀ cls ent off k = length calls - off
 
 loop-holds : tie.Need-loop-holds Inv-loop μ-loop
-loop-holds c = (omega arith, omega arith, refl, refl, marks-none _ _ _, marks-none _ _ _, λ j h. absurd (not-suc-le-zero h))
+loop-holds c =
+    let s = c .before .before .before .before .before .args in
+    marked-none (s .calls .now) 4 (callCount (s .calls .now)) 3 (callGood (s .calls .now) (s .cargs .now) (s .target .now)) (s .cls .now) (s .ent .now)
 
 call-entry-requires : tie.Need-call-entry-requires Inv-loop μ-loop
 call-entry-requires c κs =
@@ -40,11 +37,8 @@ same-length-2 c = search needs
 returns : tie.Need-returns Inv-loop μ-loop
 returns c =
     let s = c .before .before .before .before .before .before .before .before .before .before .args in
-    let l = c .before .before .before .before .loop in (
-      sym (first-at (λ j. not (callGood (s .calls .now) (s .cargs .now) (s .target .now) (callClasses (s .calls .now) (s .cls .now) j) j)) _ _ (omega arith)
-          (ap not (rw (l .inv .4) at (sym (c .before .call-entry .ensures))) ∙ c .if1 .taken) (l .inv .6)),
-      (l .inv .4, l .inv .5),
-    )
+    let l = c .before .before .before .before .loop in
+    marked-stop (s .calls .now) 4 (callCount (s .calls .now)) 3 (callGood (s .calls .now) (s .cargs .now) (s .target .now)) (s .cls .now) (s .ent .now) (l .cls) (l .ent) (l .off) (l .k) (l .inv) _ (omega arith) (c .before .call-entry .ensures) (c .if1 .taken)
 
 -- the entry is good: it is whole, and its variable has a place in both lists
 good : (c : tie.Else1 Inv-loop μ-loop) →
@@ -95,15 +89,7 @@ loop-again c =
     let s = c .before .before .before .before .before .before .before .before .before .before .before .args in
     let l = c .before .before .before .before .before .loop in
     let h = fits (c .before) .0 in
-    let v = ap (λ (z : ℕ). getD (s .calls .now) z 0) (l .inv .0) in (
-      omega arith,
-      omega arith,
-      simp length-set (l .inv .2),
-      simp length-set (l .inv .3),
-      marks-more _ _ _ _ (l .inv .4) v refl,
-      marks-more _ _ _ _ (l .inv .5) v (l .inv .0),
-      below-more _ _ (l .inv .6) (ap not (rw (l .inv .4) at (good (c .before)))),
-    )
+    marked-more (s .calls .now) 4 (callCount (s .calls .now)) 3 (callGood (s .calls .now) (s .cargs .now) (s .target .now)) (s .cls .now) (s .ent .now) (l .cls) (l .ent) (l .off) (l .k) (l .inv) (good (c .before)) (omega arith) (omega arith)
 
 same-length-3 : tie.Need-same-length-3 Inv-loop μ-loop
 same-length-3 c = search needs
@@ -115,7 +101,7 @@ returns-2 : tie.Need-returns-2 Inv-loop μ-loop
 returns-2 c =
     let s = c .before .before .before .before .before .before .before .args in
     let l = c .before .loop in
-    (sym (first-past (λ j. not (callGood (s .calls .now) (s .cargs .now) (s .target .now) (callClasses (s .calls .now) (s .cls .now) j) j)) _ _ (l .inv .1) (omega arith) (l .inv .6)), (l .inv .4, l .inv .5))
+    marked-end (s .calls .now) 4 (callCount (s .calls .now)) 3 (callGood (s .calls .now) (s .cargs .now) (s .target .now)) (s .cls .now) (s .ent .now) (l .cls) (l .ent) (l .off) (l .k) (l .inv) (omega arith)
 
 pub call-entries-spec : {M : Type 1} → statement M
 call-entries-spec =
