@@ -29,7 +29,7 @@ keeps-book b = go (ltb (length b) contents) (ltb (firstBad b) sections) (eqb (du
     go false false false = refl
 
 -- two answers, the first of which counts where it refuses
-accepts-both : (a b : Answer) → isAccepted (andThen a b) ≡ true → (isAccepted a ≡ true) × (isAccepted b ≡ true)
+pub accepts-both : (a b : Answer) → isAccepted (andThen a b) ≡ true → (isAccepted a ≡ true) × (isAccepted b ≡ true)
 accepts-both a b e = go (isAccepted a) refl e
   where
     go : (t : Bool) → isAccepted a ≡ t → isAccepted (cond t b a) ≡ true → (isAccepted a ≡ true) × (isAccepted b ≡ true)

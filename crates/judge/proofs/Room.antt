@@ -46,13 +46,13 @@ module _ (L : Lowering) (w0 w1 c e : ℕ) where
       rw (le-ltb _ _ h0, le-ltb _ _ h1, le-ltb _ _ h2, le-ltb _ _ h3, s, t)
 
 -- a book of at most 65,536 bytes has at most 8,170 words
-few-words : (b : List ℕ) → length b ≤ longest → Good b → length (bookWords b) ≤ 8170
+pub few-words : (b : List ℕ) → length b ≤ longest → Good b → length (bookWords b) ≤ 8170
 few-words b h g =
     let x : contents + 8 * length (loaded b sections) ≤ dueAt b sections = loaded-bound b g sections (omega arith) in
     let y : dueAt b sections ≡ length b = good-book b g .ends in
     omega arith
 
-few-in : (b : List ℕ) (i : ℕ) → length (loaded b i) + length (listOf b i) ≤ length (bookWords b) → length (bookWords b) ≤ 8170 → length (listOf b i) ≤ 8170
+pub few-in : (b : List ℕ) (i : ℕ) → length (loaded b i) + length (listOf b i) ≤ length (bookWords b) → length (bookWords b) ≤ 8170 → length (listOf b i) ≤ 8170
 few-in b i h k = omega arith
 
 module _ (b : List ℕ) (w0 w1 c e room : ℕ) (h0 : 2048 ≤ w0) (h1 : 2048 ≤ w1) (h2 : 2048 ≤ c) (h3 : 2048 ≤ e) (h4 : 8192 ≤ room) where
