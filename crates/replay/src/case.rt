@@ -127,6 +127,16 @@ pub fn same_list(a: &[u64], b: &[u64]) -> bool
     true
 }
 
+// Whether the first two lists are the last two.
+pub fn same_lists(a: &[u64], b: &[u64], x: &[u64], y: &[u64]) -> bool
+    ensures equal { λ r. ⌜ (r ≡ true → (now (a .entry) ≡ now (x .entry)) × (now (b .entry) ≡ now (y .entry))) × ((now (a .entry) ≡ now (x .entry)) × (now (b .entry) ≡ now (y .entry)) → r ≡ true) ⌝ }
+{
+    if !same_list(a, x) {
+        return false;
+    }
+    same_list(b, y)
+}
+
 // Puts a list at the start of out.
 pub fn copy(list: &[u64], out: &mut [u64])
     requires { ⌜ length (now list) ≤ length (now out) ⌝ }
