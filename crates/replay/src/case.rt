@@ -150,6 +150,19 @@ pub fn copy(list: &[u64], out: &mut [u64])
     }
 }
 
+// Puts a list at the start of out. Its length, or 0 where it is longer than out.
+pub fn lend(list: &[u64], out: &mut [u64]) -> usize
+    ensures room { λ r. ⌜ Counts r (now (out .exit)) ⌝ }
+    ensures copied { λ r. ⌜ (length (now (list .entry)) ≤ length (now (out .entry)) → take r (now (out .exit)) ≡ now (list .entry)) ⌝ }
+{
+    let n = list.len();
+    if out.len() < n {
+        return 0;
+    }
+    copy(list, out);
+    n
+}
+
 // Puts a list at the start of out. False where a word is no byte.
 pub fn copy_bytes(list: &[u64], out: &mut [u8]) -> bool
     requires { ⌜ length (now list) ≤ length (now out) ⌝ }

@@ -1,6 +1,5 @@
 // The operations: each takes its lists from a case, calls the library, and compares the outcome.
 ghost use Prim.Native.Nat.{_<_};
-ghost use Rattle.io.specs.Counts.{Counts};
 use crate::case;
 use answers::Words;
 
@@ -21,20 +20,6 @@ pub fn agrees(words: &[u64]) -> bool {
         5 => check_agrees(words),
         _ => false,
     }
-}
-
-// Puts list k of a case at the start of out. Its length, or 0 where it is longer than out, which no
-// line has.
-fn lend(words: &[u64], k: usize, out: &mut [u64]) -> usize
-    ensures room { λ r. ⌜ Counts r (now (out .exit)) ⌝ }
-{
-    let list = case::given(words, k);
-    let n = list.len();
-    if out.len() < n {
-        return 0;
-    }
-    case::copy(list, out);
-    n
 }
 
 fn call_widths(words: &[u64], source: bool, bits: &[u8], widths: &mut [u64]) -> Words {
@@ -71,7 +56,7 @@ fn widths_agree(words: &[u64], source: bool, lists: u64) -> bool
     if !case::copy_bytes(bits, &mut bytes) {
         return false;
     }
-    let n = lend(words, lists as usize - 1, &mut widths);
+    let n = case::lend(case::given(words, lists as usize - 1), &mut widths);
     same_widths(words, source, &bytes[..b], &mut widths[..n])
 }
 
@@ -120,8 +105,8 @@ fn values_agree(words: &[u64]) -> bool {
     if !case::copy_bytes(bits, &mut bytes) {
         return false;
     }
-    let n = lend(words, 3, &mut widths);
-    let m = lend(words, 4, &mut values);
+    let n = case::lend(case::given(words, 3), &mut widths);
+    let m = case::lend(case::given(words, 4), &mut values);
     same_values(words, &bytes[..b], &mut widths[..n], &mut values[..m])
 }
 
@@ -184,10 +169,10 @@ fn lowering_agrees(words: &[u64], ebits: &[u8], tbits: &[u8]) -> bool {
     let mut ws1 = [0u64; ROOM];
     let mut classes = [0u64; ROOM];
     let mut entries = [0u64; ROOM];
-    let n0 = lend(words, 11, &mut ws0);
-    let n1 = lend(words, 12, &mut ws1);
-    let n2 = lend(words, 13, &mut classes);
-    let n3 = lend(words, 14, &mut entries);
+    let n0 = case::lend(case::given(words, 11), &mut ws0);
+    let n1 = case::lend(case::given(words, 12), &mut ws1);
+    let n2 = case::lend(case::given(words, 13), &mut classes);
+    let n3 = case::lend(case::given(words, 14), &mut entries);
     same_check(
         words,
         ebits,
