@@ -2,8 +2,11 @@
 //! Rust; classes and entry offsets, which the Rust keeps to itself, and the
 //! second reference come from restated.rs. selftest.rs runs it without the library.
 
+use crate::changes;
+use crate::features;
 use crate::lowering;
-use crate::operation::{Kind, Lists, Operation, Outcome};
+use crate::marked;
+use crate::operation::{Feature, Kind, Lists, Operation, Outcome};
 use crate::ours::{self, Answer};
 use crate::random::Random;
 use crate::reference;
@@ -49,8 +52,8 @@ impl Operation for Check {
             ("side", Kind::Words),
             ("source roots", Kind::Words),
             ("map", Kind::Words),
-            ("reads", Kind::Words),
-            ("calls", Kind::Words),
+            ("reads", Kind::Entries(3)),
+            ("calls", Kind::Entries(4)),
             ("arguments", Kind::Words),
             ("target", Kind::Rows(4)),
             ("target bits", Kind::Bits),
@@ -66,6 +69,37 @@ impl Operation for Check {
         &[
             0, 1, 2, 3, 4, 5, 6, 7, 8, 9, 10, 11, 12, 13, 14, 15, 16, 17, 18,
         ]
+    }
+
+    fn parts(&self) -> &'static [(u64, u64)] {
+        &[
+            (15, 1),
+            (15, 2),
+            (16, 1),
+            (16, 2),
+            (17, 1),
+            (17, 2),
+            (18, 1),
+            (18, 2),
+            (18, 3),
+            (18, 4),
+        ]
+    }
+
+    fn features(&self) -> Vec<Feature> {
+        features::features()
+    }
+
+    fn known(&self) -> Vec<(Lists, Answer)> {
+        let accepted = marked::accepted().into_iter();
+        accepted
+            .map(|lists| (lists, ACCEPTED))
+            .chain(marked::refused())
+            .collect()
+    }
+
+    fn changed(&self) -> Vec<Lists> {
+        marked::accepted().iter().flat_map(changes::each).collect()
     }
 
     /// An accepted lowering, then none to three damages.
@@ -142,7 +176,17 @@ fn call(lists: &mut Lists, bits: &mut [Vec<u8>; 2]) -> (Answer, bool) {
     let (answer, outer) = ours::fenced_both([ws0, ws1], |ws0, ws1| {
         let (answer, strayed) = ours::fenced_both([classes, entries], |classes, entries| {
             ours::check(
-                [source, side, source_roots, map, reads, calls, arguments, target, target_roots],
+                [
+                    source,
+                    side,
+                    source_roots,
+                    map,
+                    reads,
+                    calls,
+                    arguments,
+                    target,
+                    target_roots,
+                ],
                 [source_bits, target_bits],
                 [ws0, ws1, classes, entries],
             )

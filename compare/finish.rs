@@ -76,11 +76,11 @@ impl Writer<'_> {
         let mut place = vec![MAX; self.target.len()];
         let mut ordered = Vec::new();
         while ordered.len() < self.target.len() {
-            let ready: Vec<usize> = (0..self.target.len())
-                .filter(|&row| place[row] == MAX)
-                .filter(|&row| renamed(&self.target[row], &place).is_some())
-                .collect();
-            let row = self.random().pick(&ready);
+            let from = self.random().place(place.len());
+            let ready =
+                |row: &usize| place[*row] == MAX && renamed(&self.target[*row], &place).is_some();
+            let row = (from..place.len()).chain(0..from).find(ready);
+            let row = row.expect("the first row that is left has its operands");
             ordered.extend(renamed(&self.target[row], &place));
             place[row] = ordered.len() as u64 - 1;
         }

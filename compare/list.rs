@@ -4,12 +4,14 @@
 
 use std::collections::BTreeSet;
 
+use crate::check::{self, CHECK};
 use crate::graphs::{Builder, Style};
 use crate::listed;
 use crate::operation::{Kind, Lists, Operation, Outcome, OPERATIONS};
+use crate::ours::Answer;
 use crate::random::Random;
 use crate::roots::ROOTS;
-use crate::rules::{Graph, SOURCE, TARGET};
+use crate::rules::{Graph, ACCEPTED, SOURCE, TARGET};
 use crate::tags::{CALL, CONCAT, EXTRACT, SELECT, VAR};
 use crate::values::VALUES;
 use crate::widths::{SOURCE_WIDTHS, TARGET_WIDTHS};
@@ -29,9 +31,16 @@ const LONG: Limits = Limits {
     line: 999,
 };
 
+/// For cases of Check that are chosen for what they show: the shortest of so many.
+const MIDDLE: Limits = Limits {
+    rows: 12,
+    line: 800,
+};
+const CHOICE: usize = 20;
+
 /// Every line has fewer words, and the list fewer bytes, than this.
 const WORDS: usize = 500;
-const BYTES: usize = 60_000;
+const BYTES: usize = 200_000;
 
 /// How many random cases of an answer an operation gets.
 const WANTED: [(u64, usize); 8] = [
@@ -45,7 +54,7 @@ const WANTED: [(u64, usize); 8] = [
     (19, 20),
 ];
 
-/// The same for values, which comes last.
+/// The same for values.
 const WANTED_VALUES: [(u64, usize); 9] = [
     (0, 20),
     (2, 12),
@@ -58,9 +67,14 @@ const WANTED_VALUES: [(u64, usize); 9] = [
     (23, 12),
 ];
 
+/// How many random cases each answer of Check gets, beside those that are chosen.
+const WANTED_CHECK: usize = 14;
+
 #[derive(Default)]
 struct List {
     lines: Vec<String>,
+    /// The cases of Check, each with its answer.
+    checks: Vec<(Lists, Answer)>,
     /// Operation and tag of the rows taken so far.
     taken: BTreeSet<(u64, u64)>,
     /// A case with a field of MAX was taken, one was refused.
@@ -83,12 +97,21 @@ pub fn list(seed: u64) -> bool {
             }
         }
     }
-    let good = listed::cases()
+    let mut good = listed::cases()
         .into_iter()
         .all(|lists| list.add(&VALUES, lists, LONG));
     for (number, count) in WANTED_VALUES {
         some(&mut random, &VALUES, number, count, &mut list);
     }
+    good &= CHECK
+        .known()
+        .into_iter()
+        .all(|(lists, answer)| list.add_known(lists, answer));
+    for &number in CHECK.answers() {
+        some(&mut random, &CHECK, number, WANTED_CHECK, &mut list);
+    }
+    good &= showing_features(&mut random, &mut list);
+    good &= showing_edges(&mut random, &mut list);
     list.lines.iter().for_each(|line| println!("{line}"));
     list.complete() && good
 }
@@ -143,7 +166,65 @@ fn some(
     }
 }
 
+/// For each feature of accepted lowerings a case that shows it, if there is none yet.
+fn showing_features(random: &mut Random, list: &mut List) -> bool {
+    CHECK.features().into_iter().all(|(_, has)| {
+        let shows = |lists: &Lists, answer: Answer| answer == ACCEPTED && has(lists);
+        list.add_shown(shows, || check::undamaged(random, MIDDLE.rows))
+    })
+}
+
+/// For each field of each list of Check a case with a word near 2^64 there; but
+/// for tags, it gets past 15 to 18.
+fn showing_edges(random: &mut Random, list: &mut List) -> bool {
+    let mut good = true;
+    for (place, &(_, kind)) in CHECK.lists().iter().enumerate() {
+        for field in 0..kind.fields() {
+            let tag = field == 0 && matches!(kind, Kind::Rows(_));
+            let shows = |lists: &Lists, answer: Answer| {
+                let words = lists[place].iter().skip(field).step_by(kind.fields());
+                words.max() >= Some(&(MAX - 3)) && (tag || !(15..=18).contains(&answer.number))
+            };
+            good &= list.add_shown(shows, || CHECK.generate(random, SHORT.rows));
+        }
+    }
+    good
+}
+
 impl List {
+    /// Adds a case of Check whose answer is known.
+    fn add_known(&mut self, lists: Lists, answer: Answer) -> bool {
+        CHECK.expected(&lists).answer == answer && self.add(&CHECK, lists, LONG)
+    }
+
+    /// Adds the shortest of some generated cases of Check that show something,
+    /// unless a case of the list shows it; false if all of them are too long.
+    fn add_shown(
+        &mut self,
+        shows: impl Fn(&Lists, Answer) -> bool,
+        mut generate: impl FnMut() -> Lists,
+    ) -> bool {
+        if self
+            .checks
+            .iter()
+            .any(|(lists, answer)| shows(lists, *answer))
+        {
+            return true;
+        }
+        let mut found: Vec<(usize, Lists)> = Vec::new();
+        while found.len() < CHOICE {
+            let mut lists = generate();
+            shorten(&CHECK, &mut lists);
+            let outcome = CHECK.expected(&lists);
+            if shows(&lists, outcome.answer) {
+                found.push((line(&CHECK, &lists, &outcome).len(), lists));
+            }
+        }
+        found.sort();
+        let mut shortest = found.into_iter().map(|(_, lists)| lists);
+        shortest.any(|lists| self.add(&CHECK, lists, MIDDLE))
+    }
+
     /// Adds a case, unless it is too long or there already.
     fn add(&mut self, operation: &dyn Operation, mut lists: Lists, limits: Limits) -> bool {
         shorten(operation, &mut lists);
@@ -164,6 +245,10 @@ impl List {
         let refused = outcome.answer.number != 0;
         if lists[0].contains(&MAX) {
             self.highest[usize::from(refused)] = true;
+        }
+        if operation.number() == CHECK.number() {
+            self.checks.push((lists.clone(), outcome.answer));
+            return;
         }
         if let (Kind::Rows(row), false) = (operation.lists()[0].1, refused) {
             for row in lists[0].chunks(row) {

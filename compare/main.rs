@@ -13,6 +13,8 @@ mod check;
 mod compare;
 mod congruence;
 mod damage;
+mod extremes;
+mod features;
 mod finish;
 mod graphs;
 mod grid;
@@ -20,6 +22,7 @@ mod list;
 mod listed;
 mod lowering;
 mod marked;
+mod misfits;
 mod operands;
 mod operation;
 mod ours;
@@ -36,6 +39,7 @@ mod smt;
 mod sources;
 mod spoil;
 mod tags;
+mod tally;
 mod tiny;
 mod values;
 mod wellformed;
@@ -43,7 +47,10 @@ mod widths;
 
 use std::process::ExitCode;
 
-const USAGE: &str = "usage: [compare|bench|list|smt|check-self] [--seed N] [--cases N] [--rows N]";
+use operation::{Operation, OPERATIONS};
+
+const USAGE: &str =
+    "usage: [compare|bench|list|smt|check-self] [--seed N] [--cases N] [--rows N] [--only NAME]";
 
 /// The words of the command line.
 struct Command {
@@ -51,6 +58,13 @@ struct Command {
     seed: u64,
     cases: u64,
     rows: u64,
+    only: Option<&'static dyn Operation>,
+}
+
+/// The operation of this name, its words joined by hyphens.
+fn operation(name: &str) -> Option<&'static dyn Operation> {
+    let mut operations = OPERATIONS.iter().map(|&(operation, _)| operation);
+    operations.find(|operation| operation.name().replace(' ', "-") == name)
 }
 
 fn command(mut words: impl Iterator<Item = String>) -> Option<Command> {
@@ -59,12 +73,14 @@ fn command(mut words: impl Iterator<Item = String>) -> Option<Command> {
         seed: 1,
         cases: 1_000_000,
         rows: 20_000,
+        only: None,
     };
     while let Some(word) = words.next() {
         match word.as_str() {
             "--seed" => command.seed = words.next()?.parse().ok()?,
             "--cases" => command.cases = words.next()?.parse().ok()?,
             "--rows" => command.rows = words.next()?.parse().ok()?,
+            "--only" => command.only = Some(operation(&words.next()?)?),
             "compare" | "bench" | "list" | "smt" | "check-self" => command.what = word,
             _ => return None,
         }
@@ -82,7 +98,7 @@ fn main() -> ExitCode {
         "list" => list::list(command.seed),
         "smt" => smt::smt(command.seed, command.rows),
         "check-self" => selftest::selftest(command.seed, command.cases),
-        _ => compare::compare(command.seed, command.cases),
+        _ => compare::compare(command.seed, command.cases, command.only),
     };
     ExitCode::from(if good { 0 } else { 1 })
 }

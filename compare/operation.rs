@@ -20,11 +20,27 @@ pub enum Kind {
     Bits,
     /// A word given for each row of the list at this index.
     Given(usize),
+    /// Entries of a table, of so many words each.
+    Entries(usize),
     /// Words of any other meaning.
     Words,
     /// A list lent for writing, a word for each row of the list at this index.
     Lent(usize),
 }
+
+impl Kind {
+    /// The words of a row or an entry; 0 for a list that holds no words of ours.
+    pub fn fields(self) -> usize {
+        match self {
+            Kind::Rows(size) | Kind::Entries(size) => size,
+            Kind::Given(_) | Kind::Words => 1,
+            Kind::Bits | Kind::Lent(_) => 0,
+        }
+    }
+}
+
+/// A name, and whether a case shows what it names.
+pub type Feature = (String, Box<dyn Fn(&Lists) -> bool>);
 
 /// What a call answered and what all the lists held after it.
 #[derive(Clone, PartialEq, Eq)]
@@ -46,6 +62,23 @@ pub trait Operation: Sync {
     /// So many tags must each have been accepted and refused in the first list.
     fn tags(&self) -> usize {
         0
+    }
+    /// Refusals 15 to 18 that must have come, each with the graph or the lent
+    /// list that it names.
+    fn parts(&self) -> &'static [(u64, u64)] {
+        &[]
+    }
+    /// What accepted cases must have shown.
+    fn features(&self) -> Vec<Feature> {
+        Vec::new()
+    }
+    /// Cases whose answers the scope names.
+    fn known(&self) -> Vec<(Lists, Answer)> {
+        Vec::new()
+    }
+    /// Every case that one change makes of an accepted one of these.
+    fn changed(&self) -> Vec<Lists> {
+        Vec::new()
     }
     /// A random case of at most about `rows` rows.
     fn generate(&self, random: &mut Random, rows: usize) -> Lists;

@@ -27,7 +27,7 @@ pub fn shrink(operation: &dyn Operation, pair: Pair, lists: Lists) -> Lists {
 /// Words that are dropped together from a list.
 fn unit(kind: Kind) -> usize {
     match kind {
-        Kind::Rows(row) => row,
+        Kind::Rows(size) | Kind::Entries(size) => size,
         _ => 1,
     }
 }
@@ -161,7 +161,7 @@ fn lower_numbers(operation: &dyn Operation, lists: &Lists, row: u64, rows: u64) 
                     .filter(|&k| names_row(tag, k))
                     .for_each(|k| lower(&mut row[k]));
             }),
-            Kind::Words => list.iter_mut().for_each(lower),
+            Kind::Entries(_) | Kind::Words => list.iter_mut().for_each(lower),
             Kind::Bits | Kind::Given(_) | Kind::Lent(_) => {}
         }
     }

@@ -3,6 +3,8 @@
 
 use crate::check::at;
 use crate::damage;
+use crate::extremes;
+use crate::misfits;
 use crate::operation::{Kind, Lists};
 use crate::random::Random;
 use crate::rules::{SOURCE, TARGET};
@@ -13,7 +15,7 @@ const MAX: u64 = u64::MAX;
 
 /// Damages the lists once; some damages find nothing to change.
 pub fn spoil(random: &mut Random, kinds: &[(&'static str, Kind)], lists: &mut Lists) {
-    match random.below(16) {
+    match random.below(22) {
         0 | 1 => damage::damage(random, kinds, lists),
         2 => bend_map(random, lists),
         3 => alias(random, lists),
@@ -27,6 +29,11 @@ pub fn spoil(random: &mut Random, kinds: &[(&'static str, Kind)], lists: &mut Li
         12 => swap_operands(random, lists),
         13 => other_tag(random, lists),
         14 => bend_side(random, lists),
+        15 | 16 => extremes::word(random, kinds, lists),
+        17 => extremes::stretch(random, lists),
+        18 => misfits::again(random, lists),
+        19 => misfits::surplus_root(random, lists),
+        20 => misfits::nest_right(random, lists),
         _ => bend_constant(random, lists),
     }
 }
@@ -122,15 +129,11 @@ fn bend_table(random: &mut Random, lists: &mut Lists, table: usize, size: usize)
 
 /// A new variable with an entry that no row reaches, in one of the tables.
 fn dead_entry(random: &mut Random, lists: &mut Lists) {
-    let variable = rows(lists, at::TARGET) as u64;
     let indices: Vec<u64> = lists[at::READS]
         .chunks_exact(3)
         .map(|read| read[2])
         .collect();
-    lists[at::TARGET].extend([VAR, 8, 0, 0]);
-    lists[at::LENT + 1..]
-        .iter_mut()
-        .for_each(|list| list.extend([1, 1]));
+    let variable = misfits::append(lists, &[[VAR, 8, 0, 0]]);
     if random.once_in(2) {
         let start = lists[at::ARGUMENTS].len() as u64;
         let count = random.below(2).min(start);
@@ -138,8 +141,8 @@ fn dead_entry(random: &mut Random, lists: &mut Lists) {
     } else if let Some(index) = some(random, &indices) {
         lists[at::READS].extend([variable, 8, index]);
     } else {
-        lists[at::TARGET].extend([VAR, 32, 0, 0]);
-        lists[at::READS].extend([variable, 8, variable + 1]);
+        let index = misfits::append(lists, &[[VAR, 32, 0, 0]]);
+        lists[at::READS].extend([variable, 8, index]);
     }
 }
 

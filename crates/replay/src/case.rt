@@ -127,6 +127,16 @@ pub fn same_list(a: &[u64], b: &[u64]) -> bool
     true
 }
 
+// Whether the first two lists are the last two.
+pub fn same_lists(a: &[u64], b: &[u64], x: &[u64], y: &[u64]) -> bool
+    ensures equal { λ r. ⌜ (r ≡ true → (now (a .entry) ≡ now (x .entry)) × (now (b .entry) ≡ now (y .entry))) × ((now (a .entry) ≡ now (x .entry)) × (now (b .entry) ≡ now (y .entry)) → r ≡ true) ⌝ }
+{
+    if !same_list(a, x) {
+        return false;
+    }
+    same_list(b, y)
+}
+
 // Puts a list at the start of out.
 pub fn copy(list: &[u64], out: &mut [u64])
     requires { ⌜ length (now list) ≤ length (now out) ⌝ }
@@ -138,6 +148,19 @@ pub fn copy(list: &[u64], out: &mut [u64])
         out[i] = list[i];
         i += 1;
     }
+}
+
+// Puts a list at the start of out. Its length, or 0 where it is longer than out.
+pub fn lend(list: &[u64], out: &mut [u64]) -> usize
+    ensures room { λ r. ⌜ Counts r (now (out .exit)) ⌝ }
+    ensures copied { λ r. ⌜ (length (now (list .entry)) ≤ length (now (out .entry)) → take r (now (out .exit)) ≡ now (list .entry)) ⌝ }
+{
+    let n = list.len();
+    if out.len() < n {
+        return 0;
+    }
+    copy(list, out);
+    n
 }
 
 // Puts a list at the start of out. False where a word is no byte.

@@ -24,7 +24,7 @@ fn print_number(label: &[u8], n: usize) {
 
 // A malformed line has no words, and so does not agree.
 fn line_agrees(line: &[u8]) -> bool {
-    let mut words = [0u64; 512];
+    let mut words = [0u64; run::ROOM];
     let n = text::read_line(line, &mut words);
     run::agrees(&words[..n])
 }
@@ -86,11 +86,11 @@ fn replay(text: &[u8]) -> Count
 fn cut(n: usize) -> usize
     ensures most { λ r. ⌜ r ≤ 1 ⌝ }
 {
-    if n < 65536 { 0 } else { 1 }
+    if n < 262144 { 0 } else { 1 }
 }
 
 fn main() {
-    let mut buf = [0u8; 65536];
+    let mut buf = [0u8; 262144];
     let n = io::read_full(STDIN_FILENO, &mut buf);
     let c = replay(&buf[..n]);
     print_number(b"cases ", c.cases);

@@ -3,8 +3,8 @@ ghost use Prim.Native.Nat.{_<_};
 use crate::case;
 use answers::Words;
 
-// The longest list of bits and the longest lent list.
-const ROOM: usize = 256;
+// The longest list of bits and the longest lent list: a line has no more words.
+pub const ROOM: usize = 512;
 
 // Whether the library answers a case as expected. Malformed cases and unknown operations do not agree.
 pub fn agrees(words: &[u64]) -> bool {
@@ -17,6 +17,7 @@ pub fn agrees(words: &[u64]) -> bool {
         2 => widths_agree(words, false, 3),
         3 => roots_agree(words),
         4 => values_agree(words),
+        5 => check_agrees(words),
         _ => false,
     }
 }
@@ -46,10 +47,8 @@ fn widths_agree(words: &[u64], source: bool, lists: u64) -> bool
         return false;
     }
     let bits = case::given(words, 1);
-    let before = case::given(words, lists as usize - 1);
     let b = bits.len();
-    let n = before.len();
-    if ROOM < b || ROOM < n {
+    if ROOM < b {
         return false;
     }
     let mut bytes = [0u8; ROOM];
@@ -57,7 +56,7 @@ fn widths_agree(words: &[u64], source: bool, lists: u64) -> bool
     if !case::copy_bytes(bits, &mut bytes) {
         return false;
     }
-    case::copy(before, &mut widths);
+    let n = case::lend(case::given(words, lists as usize - 1), &mut widths);
     same_widths(words, source, &bytes[..b], &mut widths[..n])
 }
 
@@ -82,10 +81,12 @@ fn same_values(words: &[u64], bits: &[u8], widths: &mut [u64], values: &mut [u64
     if !case::same_answer(words, answer) {
         return false;
     }
-    if !case::same_list(widths, case::expected(words, 0)) {
-        return false;
-    }
-    case::same_list(values, case::expected(words, 1))
+    case::same_lists(
+        widths,
+        values,
+        case::expected(words, 0),
+        case::expected(words, 1),
+    )
 }
 
 // Values of a target: the bits are list 1, the lent lists are 3 and 4.
@@ -94,12 +95,8 @@ fn values_agree(words: &[u64]) -> bool {
         return false;
     }
     let bits = case::given(words, 1);
-    let before = case::given(words, 3);
-    let before_too = case::given(words, 4);
     let b = bits.len();
-    let n = before.len();
-    let m = before_too.len();
-    if ROOM < b || ROOM < n || ROOM < m {
+    if ROOM < b {
         return false;
     }
     let mut bytes = [0u8; ROOM];
@@ -108,7 +105,104 @@ fn values_agree(words: &[u64]) -> bool {
     if !case::copy_bytes(bits, &mut bytes) {
         return false;
     }
-    case::copy(before, &mut widths);
-    case::copy(before_too, &mut values);
+    let n = case::lend(case::given(words, 3), &mut widths);
+    let m = case::lend(case::given(words, 4), &mut values);
     same_values(words, &bytes[..b], &mut widths[..n], &mut values[..m])
+}
+
+fn call_check(
+    words: &[u64],
+    ebits: &[u8],
+    tbits: &[u8],
+    ws0: &mut [u64],
+    ws1: &mut [u64],
+    classes: &mut [u64],
+    entries: &mut [u64],
+) -> Words {
+    gilfrunt::gilfrunt_check(
+        case::given(words, 0),
+        ebits,
+        case::given(words, 2),
+        case::given(words, 3),
+        case::given(words, 4),
+        case::given(words, 5),
+        case::given(words, 6),
+        case::given(words, 7),
+        case::given(words, 8),
+        tbits,
+        case::given(words, 10),
+        ws0,
+        ws1,
+        classes,
+        entries,
+    )
+}
+
+// Calls on copies of the case's bits and lent lists, and compares the answer and the four lists.
+fn same_check(
+    words: &[u64],
+    ebits: &[u8],
+    tbits: &[u8],
+    ws0: &mut [u64],
+    ws1: &mut [u64],
+    classes: &mut [u64],
+    entries: &mut [u64],
+) -> bool {
+    let answer = call_check(words, ebits, tbits, ws0, ws1, classes, entries);
+    if !case::same_answer(words, answer) {
+        return false;
+    }
+    if !case::same_lists(ws0, ws1, case::expected(words, 0), case::expected(words, 1)) {
+        return false;
+    }
+    case::same_lists(
+        classes,
+        entries,
+        case::expected(words, 2),
+        case::expected(words, 3),
+    )
+}
+
+// With copies of the lent lists, 11 to 14.
+fn lowering_agrees(words: &[u64], ebits: &[u8], tbits: &[u8]) -> bool {
+    let mut ws0 = [0u64; ROOM];
+    let mut ws1 = [0u64; ROOM];
+    let mut classes = [0u64; ROOM];
+    let mut entries = [0u64; ROOM];
+    let n0 = case::lend(case::given(words, 11), &mut ws0);
+    let n1 = case::lend(case::given(words, 12), &mut ws1);
+    let n2 = case::lend(case::given(words, 13), &mut classes);
+    let n3 = case::lend(case::given(words, 14), &mut entries);
+    same_check(
+        words,
+        ebits,
+        tbits,
+        &mut ws0[..n0],
+        &mut ws1[..n1],
+        &mut classes[..n2],
+        &mut entries[..n3],
+    )
+}
+
+// Check: the bits are lists 1 and 9, the lent lists are 11 to 14.
+fn check_agrees(words: &[u64]) -> bool {
+    if !case::has_shape(words, 15, 4) {
+        return false;
+    }
+    let bits = case::given(words, 1);
+    let bits_too = case::given(words, 9);
+    let n = bits.len();
+    let m = bits_too.len();
+    if ROOM < n || ROOM < m {
+        return false;
+    }
+    let mut ebits = [0u8; ROOM];
+    let mut tbits = [0u8; ROOM];
+    if !case::copy_bytes(bits, &mut ebits) {
+        return false;
+    }
+    if !case::copy_bytes(bits_too, &mut tbits) {
+        return false;
+    }
+    lowering_agrees(words, &ebits[..n], &tbits[..m])
 }
