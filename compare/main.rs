@@ -7,6 +7,7 @@
 //! starts this program.
 
 mod bench;
+mod bench_check;
 mod chains;
 mod changes;
 mod check;
@@ -16,6 +17,7 @@ mod damage;
 mod finish;
 mod graphs;
 mod grid;
+mod large;
 mod list;
 mod listed;
 mod lowering;
@@ -24,6 +26,7 @@ mod operands;
 mod operation;
 mod ours;
 mod plain;
+mod race;
 mod random;
 mod reference;
 mod restated;
@@ -78,7 +81,7 @@ fn main() -> ExitCode {
         return ExitCode::from(2);
     };
     let good = match command.what.as_str() {
-        "bench" => bench::bench(command.seed),
+        "bench" => bench::bench(command.seed) && bench_check::bench(command.seed),
         "list" => list::list(command.seed),
         "smt" => smt::smt(command.seed, command.rows),
         "check-self" => selftest::selftest(command.seed, command.cases),
