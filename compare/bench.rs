@@ -2,7 +2,6 @@
 //! taken in turn within one process.
 
 use std::hint::black_box;
-use std::time::Instant;
 
 use kernel::blast_kernel::DagNode;
 use kernel::sliver_kernel::ext_wf;
@@ -13,13 +12,13 @@ use crate::operands;
 use crate::operation::Lists;
 use crate::ours;
 use crate::plain;
+use crate::race::{self, race, Per};
 use crate::random::Random;
 use crate::reference;
 use crate::rules::{SOURCE, TARGET};
 use crate::tags::{ADD, CALL, CONST, SELECT, VAR};
 
 const ROWS: usize = 100_000;
-const ROUNDS: usize = 25;
 
 /// Operands come from so many rows back at most.
 const REACH: usize = 200;
@@ -40,10 +39,7 @@ arithmetic on u64 over the ready nodes, with the drop of both lists (plain.rs).
 pub fn bench(seed: u64) -> bool {
     let mut random = Random::new(seed);
     println!("{HEAD}");
-    println!(
-        "{:34} {:>8}  {:>15}  {:>15}  {:>7}",
-        "case", "rows", "ours (median)", "Rust (median)", "ratio"
-    );
+    race::heading("rows");
     let all = target_graph(&mut random);
     let mut early = all.clone();
     early[0].splice(0..4, [VAR, 0, 0, 0]);
@@ -136,7 +132,7 @@ fn target(name: &str, mut lists: Lists, refused: Option<u64>) -> bool {
         (answer.number, answer.place) == (number, refused.unwrap_or(0))
     };
     let mut theirs = || black_box(dag_wf(black_box(&nodes), count)).is_err() == refused.is_some();
-    race(name, nodes.len(), &mut mine, &mut theirs)
+    race(name, nodes.len(), Per::Row, &mut mine, &mut theirs)
 }
 
 fn source_case(name: &str, mut lists: Lists) -> bool {
@@ -149,7 +145,7 @@ fn source_case(name: &str, mut lists: Lists) -> bool {
     let mut mine =
         || ours::source_widths(&mut rows[0], &mut bits, &mut rest[1], &mut widths).number == 0;
     let mut theirs = || black_box(ext_wf(black_box(&nodes), count, &side)).is_ok();
-    race(name, nodes.len(), &mut mine, &mut theirs)
+    race(name, nodes.len(), Per::Row, &mut mine, &mut theirs)
 }
 
 fn roots_case(name: &str) -> bool {
@@ -158,7 +154,7 @@ fn roots_case(name: &str) -> bool {
     let (sizes, places) = (reference::sizes(&widths), reference::sizes(&roots));
     let mut mine = || ours::roots(&mut widths, &mut roots).number == 0;
     let mut theirs = || black_box(roots_wf(black_box(&sizes), &places)).is_ok();
-    race(name, ROWS, &mut mine, &mut theirs)
+    race(name, ROWS, Per::Row, &mut mine, &mut theirs)
 }
 
 /// Values, against `dag_wf`, the tests of 21 to 23 and plain.rs.
@@ -180,7 +176,7 @@ fn values_case(name: &str, mut lists: Lists) -> bool {
         answer.number == 0
     };
     let mut theirs = || black_box(plain_values(black_box(&nodes), &flags, &words)).is_some();
-    let good = race(name, nodes.len(), &mut mine, &mut theirs);
+    let good = race(name, nodes.len(), Per::Row, &mut mine, &mut theirs);
     good && plain_values(&nodes, &flags, &words) == Some(values)
 }
 
@@ -192,45 +188,4 @@ fn plain_values(nodes: &[DagNode], bits: &[bool], given: &[u64]) -> Option<Vec<u
     };
     let good = given.len() == nodes.len() && nodes.iter().zip(&widths).zip(given).all(fits);
     good.then(|| plain::values(nodes, bits, &widths, given))
-}
-
-/// Runs both in turn and prints a line; false if one of them ever answered
-/// otherwise than it should.
-fn race(
-    name: &str,
-    rows: usize,
-    ours: &mut dyn FnMut() -> bool,
-    rust: &mut dyn FnMut() -> bool,
-) -> bool {
-    let mut good = ours() && rust();
-    let (mut mine, mut theirs) = (Vec::new(), Vec::new());
-    for _ in 0..ROUNDS {
-        mine.push(timed(rows, ours, &mut good));
-        theirs.push(timed(rows, rust, &mut good));
-    }
-    let (mine, theirs) = (summary(mine), summary(theirs));
-    println!(
-        "{name:34} {rows:>8}  {:>6.3} ({:>6.3})  {:>6.3} ({:>6.3})  {:>7.2}",
-        mine.0,
-        mine.1,
-        theirs.0,
-        theirs.1,
-        mine.0 / theirs.0
-    );
-    if !good {
-        println!("{name}: an answer was not the expected one");
-    }
-    good
-}
-
-fn timed(rows: usize, run: &mut dyn FnMut() -> bool, good: &mut bool) -> f64 {
-    let start = Instant::now();
-    *good &= run();
-    start.elapsed().as_nanos() as f64 / rows as f64
-}
-
-/// The least and the median.
-fn summary(mut times: Vec<f64>) -> (f64, f64) {
-    times.sort_by(f64::total_cmp);
-    (times[0], times[times.len() / 2])
 }

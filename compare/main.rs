@@ -7,6 +7,7 @@
 //! starts this program.
 
 mod bench;
+mod bench_check;
 mod chains;
 mod changes;
 mod check;
@@ -18,6 +19,7 @@ mod features;
 mod finish;
 mod graphs;
 mod grid;
+mod large;
 mod list;
 mod listed;
 mod lowering;
@@ -27,6 +29,7 @@ mod operands;
 mod operation;
 mod ours;
 mod plain;
+mod race;
 mod random;
 mod reference;
 mod restated;
@@ -94,7 +97,7 @@ fn main() -> ExitCode {
         return ExitCode::from(2);
     };
     let good = match command.what.as_str() {
-        "bench" => bench::bench(command.seed),
+        "bench" => bench::bench(command.seed) && bench_check::bench(command.seed),
         "list" => list::list(command.seed),
         "smt" => smt::smt(command.seed, command.rows),
         "check-self" => selftest::selftest(command.seed, command.cases),

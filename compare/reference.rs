@@ -143,23 +143,56 @@ pub fn roots(widths: &[u64], roots: &[u64]) -> Result<(), u64> {
     }
 }
 
+/// What `check_sliver_lowering` takes, made of words.
+pub struct Sliver {
+    source: Vec<ExtNode>,
+    source_bits: Vec<bool>,
+    /// The lists of words; the graphs' and bits' places stay empty.
+    words: Vec<Vec<usize>>,
+    target: Vec<DagNode>,
+    target_bits: Vec<bool>,
+}
+
+impl Sliver {
+    pub fn of(lists: &Lists) -> Sliver {
+        let graphs = [at::SOURCE, at::SOURCE_BITS, at::TARGET, at::TARGET_BITS];
+        let words = |place: usize| {
+            if graphs.contains(&place) {
+                Vec::new()
+            } else {
+                sizes(&lists[place])
+            }
+        };
+        Sliver {
+            source: ext_nodes(&lists[at::SOURCE]),
+            source_bits: flags(&lists[at::SOURCE_BITS]),
+            words: (0..at::LENT).map(words).collect(),
+            target: dag_nodes(&lists[at::TARGET]),
+            target_bits: flags(&lists[at::TARGET_BITS]),
+        }
+    }
+
+    pub fn check(&self) -> Result<(), SliverCheckError> {
+        check_sliver_lowering(
+            &self.source,
+            &self.source_bits,
+            &self.words[at::SIDE],
+            &self.words[at::SOURCE_ROOTS],
+            &self.words[at::MAP],
+            &self.words[at::READS],
+            &self.words[at::CALLS],
+            &self.words[at::ARGUMENTS],
+            &self.target,
+            &self.target_bits,
+            &self.words[at::TARGET_ROOTS],
+        )
+    }
+}
+
 /// What `check_sliver_lowering` answers, as the scope's number, place and
 /// detail.
 pub fn check(lists: &Lists) -> Answer {
-    let list = |place: usize| sizes(&lists[place]);
-    let verdict = check_sliver_lowering(
-        &ext_nodes(&lists[at::SOURCE]),
-        &flags(&lists[at::SOURCE_BITS]),
-        &list(at::SIDE),
-        &list(at::SOURCE_ROOTS),
-        &list(at::MAP),
-        &list(at::READS),
-        &list(at::CALLS),
-        &list(at::ARGUMENTS),
-        &dag_nodes(&lists[at::TARGET]),
-        &flags(&lists[at::TARGET_BITS]),
-        &list(at::TARGET_ROOTS),
-    );
+    let verdict = Sliver::of(lists).check();
     let Err(error) = verdict else {
         return ACCEPTED;
     };

@@ -93,6 +93,11 @@ graphs-stop s eb side t tb = go _ refl _ refl
     go false e false f =
         rw (stop-is-ill Source (length eb) side s (ltb-false _ _ e), stop-is-ill Target (length tb) [] t (ltb-false _ _ f))
 
+-- a row that stops the pass along the source settles the answer, wherever the target's pass stops
+pub source-settles : (s eb t tb : List ℕ) (x y z : ℕ) → x < rowCount Source s → firstRefusal (graphAnswers s eb t tb x y) ≡ firstRefusal (graphAnswers s eb t tb x z)
+unfolding firstRefusal
+source-settles s eb t tb x y z h = rw (lt-ltb _ _ h)
+
 -- acceptance: no row stops a pass
 module _ (s eb t tb : List ℕ) (x y : ℕ) (accepts : isAccepted (firstRefusal (graphAnswers s eb t tb x y)) ≡ true) where
   pub no-stop-source : rowCount Source s ≤ x

@@ -90,7 +90,7 @@ fn graph_answer(
     Answer::Accepted
 }
 
-// The widths of both graphs, or the first refusal by 01's order.
+// The widths of both graphs, or the first refusal by 01's order; a source that is refused leaves the target's widths unasked.
 fn graphs(
     source: &[u64],
     ebits: &[u8],
@@ -107,6 +107,9 @@ fn graphs(
     ensures target_list { λ r. ⌜ (isAccepted r ≡ true → now (ws1 .exit) ≡ widths Graph.Target (length (now (tbits .entry))) [] (now (target .entry)) ++ drop (rowCount Graph.Target (now (target .entry))) (now (ws1 .entry))) ⌝ }
 {
     let stop0 = wf::graph_wf(Graph::Source, source, ebits.len() as u64, eside, ws0);
+    if stop0 < rows::row_count(Graph::Source, source) {
+        return graph_answer(source, ebits, target, tbits, stop0, 0);
+    }
     let stop1 = wf::graph_wf(
         Graph::Target,
         target,

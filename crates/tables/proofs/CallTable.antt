@@ -1,15 +1,16 @@
 -- Laws of the call table: an entry's offset, the tests of an entry in order, what a good entry says. Assumes nothing.
 use Prim.Native.Nat.{ℕ, _/_, _*_, _+_, _<_, _≤_}
-use mathlib.Core.Path.{_≡_, _∙_, sym, ap}
+use mathlib.Core.Path.{_≡_, refl, _∙_, sym, ap}
 use mathlib.Core.Bool.{true, false, not}
 use mathlib.Core.List.{List}
-use borrow.Author.Tests.{le-leb, lt-leb, leb-true, ltb-true, not-false}
+use borrow.Author.Tests.{le-leb, lt-leb, leb-true, ltb-true, not-false, eq-eqb}
 use lib.ListN.{length}
 use Rattle.lists.specs.First.{none}
-use Rattle.lists.proofs.Tests.{all-true}
+use Rattle.lists.specs.Tests.{all}
+use Rattle.lists.proofs.Tests.{all-true, agree-yes}
 use Rattle.rows.specs.declared.Graph.the-variants.{Target}
 use Rattle.rows.specs.Row.{rowCount}
-use Rattle.lowering.specs.Tables.{callVar, callFunction, callStart, argCount, sameFunction, sameCall, callGood, callClasses}
+use Rattle.lowering.specs.Tables.{callVar, callFunction, callStart, argCount, callArg, sameFunction, sameCall, callGood, callClasses}
 use Rattle.tables.specs.Entries.{freeAny, ArgsWithin, argsIn, callIs}
 use Rattle.tables.proofs.Order.{fails, passes, two, three, alone}
 
@@ -17,6 +18,10 @@ pub same-call-at : (calls cargs : List ℕ) (off k : ℕ) → off / 4 * 4 ≡ of
     → callIs calls cargs off (callFunction calls k) (callStart calls k) (argCount calls k) ≡ sameCall calls cargs (off / 4) k
 unfolding sameCall sameFunction
 same-call-at calls cargs off k e = ap (λ (z : ℕ). callIs calls cargs z (callFunction calls k) (callStart calls k) (argCount calls k)) (sym e)
+
+pub call-self : (calls cargs : List ℕ) (k : ℕ) → sameCall calls cargs k k ≡ true
+unfolding sameCall sameFunction all
+call-self calls cargs k = rw (eq-eqb (callFunction calls k) (callFunction calls k) refl, eq-eqb (argCount calls k) (argCount calls k) refl, agree-yes (callArg calls cargs k) (callArg calls cargs k) (argCount calls k) (λ _ _. refl))
 
 pub args-in : (cargs : List ℕ) (s k n : ℕ) → argsIn cargs s k n ≡ true → s + k ≤ length cargs
 args-in cargs s k n e = leb-true (s + k) (length cargs) (all-true _ e .0)

@@ -2,3 +2,4 @@ pub mod Order
 pub mod Marks
 pub mod ReadTable
 pub mod CallTable
+pub mod Search

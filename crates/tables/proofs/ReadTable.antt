@@ -1,11 +1,12 @@
 -- Laws of the read table: an entry's offset, the tests of an entry in order, what a good entry says. Assumes nothing.
 use Prim.Native.Nat.{ℕ, _/_, _*_, _+_, _<_, _≤_}
-use mathlib.Core.Path.{_≡_, _∙_}
+use mathlib.Core.Path.{_≡_, refl, _∙_}
 use mathlib.Core.Bool.{true, false}
 use mathlib.Core.List.{List}
-use borrow.Author.Tests.{le-leb, lt-leb, leb-true, ltb-true}
+use borrow.Author.Tests.{le-leb, lt-leb, leb-true, ltb-true, eq-eqb}
 use lib.ListN.{length}
 use Rattle.lists.specs.First.{none}
+use Rattle.lists.specs.Tests.{all}
 use Rattle.lists.proofs.Tests.{all-true}
 use Rattle.rows.specs.declared.Graph.the-variants.{Target}
 use Rattle.rows.specs.Row.{rowCount}
@@ -17,6 +18,10 @@ use Rattle.tables.proofs.Order.{fails, passes, three, alone}
 pub same-read-at : (reads : List ℕ) (off k : ℕ) → off / 3 * 3 ≡ off → readIs reads off (readArray reads k) (readIndex reads k) ≡ sameRead reads (off / 3) k
 unfolding sameRead
 same-read-at reads off k e = rw e
+
+pub read-self : (reads : List ℕ) (k : ℕ) → sameRead reads k k ≡ true
+unfolding sameRead all
+read-self reads k = rw (eq-eqb (readArray reads k) (readArray reads k) refl, eq-eqb (readIndex reads k) (readIndex reads k) refl)
 
 module _ (reads target ws cls : List ℕ) (k : ℕ) where
   pub read-cut : length reads < k * 3 + 3 → false ≡ readGood reads target ws cls k

@@ -41,7 +41,7 @@ fn read_is(reads: &[u64], off: usize, array: u64, index: u64) -> bool
     reads[off + 2] == index
 }
 
-// An entry before k has its key.
+// An entry before k has its key. The search needs no bound: entry k ends it.
 fn read_dup(reads: &[u64], k: usize) -> bool
     requires { ⌜ k * 3 + 3 ≤ length (now reads) ⌝ }
     ensures test { λ b. ⌜ b ≡ not (none (λ l. sameRead (now (reads .entry)) l k) k) ⌝ }
@@ -50,13 +50,10 @@ fn read_dup(reads: &[u64], k: usize) -> bool
     let array = reads[upto + 1];
     let index = reads[upto + 2];
     let mut off = 0;
-    while off < upto {
-        if read_is(reads, off, array, index) {
-            return true;
-        }
+    while !read_is(reads, off, array, index) {
         off += 3;
     }
-    false
+    off < upto
 }
 
 // Entry k is good, with the classes after the entries before.
@@ -166,7 +163,7 @@ fn call_is(calls: &[u64], cargs: &[u64], off: usize, f: u64, s: u64, k: u64) -> 
     args_eq(cargs, calls[off + 2] as usize, s as usize, k as usize)
 }
 
-// An entry before k has its key.
+// An entry before k has its key. Entry k ends the search here too.
 fn call_dup(calls: &[u64], cargs: &[u64], k: usize) -> bool
     requires { ⌜ k * 4 + 4 ≤ length (now calls) ⌝ }
     requires { ⌜ ArgsWithin (now calls) (now cargs) (k + 1) ⌝ }
@@ -177,13 +174,10 @@ fn call_dup(calls: &[u64], cargs: &[u64], k: usize) -> bool
     let s = calls[upto + 2];
     let n = calls[upto + 3];
     let mut off = 0;
-    while off < upto {
-        if call_is(calls, cargs, off, f, s, n) {
-            return true;
-        }
+    while !call_is(calls, cargs, off, f, s, n) {
         off += 4;
     }
-    false
+    off < upto
 }
 
 // Entry k is good, with the classes after the entries before.

@@ -1,14 +1,15 @@
 -- `tables::call_dup` meets its contract: no entry before the offset has the key. Assumes nothing.
 use Prim.Native.Nat.{ℕ, _≤_, _<_, _*_, _/_, _+_, _-_}
-use mathlib.Core.Path.{_≡_, _∙_, sym, ap}
-use mathlib.Core.Bool.{false, not}
+use mathlib.Core.Path.{_≡_, _∙_, sym}
+use mathlib.Core.Bool.{false}
 use native.Mathlib.Nat.{not-suc-le-zero}
 use native.Mathlib.Omega.{arith}
 use borrow.Author.Count.{below-more}
 use borrow.Author.Needs.{needs}
-use Rattle.lists.proofs.First.{none-yes, none-no}
+use borrow.Author.Tests.{not-true, not-false}
 use Rattle.lowering.specs.Tables.{sameCall}
-use Rattle.tables.proofs.CallTable.{same-call-at}
+use Rattle.tables.proofs.CallTable.{same-call-at, call-self}
+use Rattle.tables.proofs.Search.{goes-on, found}
 use Rattle.tables.proofs.call_dup.Statement.{statement}
 use Rattle.tables.proofs.call_dup.Tie as tie
 
@@ -53,39 +54,45 @@ loop-holds c = (omega arith, omega arith, λ l h. absurd (not-suc-le-zero h))
 
 call-is-requires : tie.Need-call-is-requires Inv-loop μ-loop
 call-is-requires c κs =
-    let p = c .before .before .before .before .before .before .before in
-    let l = c .before .loop in
+    let p = c .before .before .before .before .before .before in
+    let l = c .loop in
     let h : l .off / 4 < p .args .k + 1 = omega arith in
     let k : p .args .k < p .args .k + 1 = omega arith in
     (omega arith, rw (l .inv .1) at (p .pre .1 (l .off / 4) h), p .pre .1 (p .args .k) k)
 
-returns : tie.Need-returns Inv-loop μ-loop
-returns c =
-    let s = c .before .before .before .before .before .before .before .before .before .args in
-    let l = c .before .before .before .loop in
-    sym (ap not (none-no (λ i. sameCall (s .calls .now) (s .cargs .now) i (s .k)) (s .k) (l .off / 4) (omega arith)
-    (sym (same-call-at (s .calls .now) (s .cargs .now) (l .off) (s .k) (l .inv .1)) ∙ sym (c .before .call-is .ensures) ∙ c .if1 .taken) (l .inv .2)))
+-- the entry at the offset has another key
+passed : (c : tie.Then1 Inv-loop μ-loop)
+    → let s = c .before .before .before .before .before .before .before .before .args in
+    sameCall (s .calls .now) (s .cargs .now) (c .before .before .loop .off / 4) (s .k) ≡ false
+passed c =
+    let s = c .before .before .before .before .before .before .before .before .args in
+    let l = c .before .before .loop in
+    sym (same-call-at (s .calls .now) (s .cargs .now) (l .off) (s .k) (l .inv .1)) ∙ sym (c .before .call-is .ensures) ∙ not-true _ (c .if1 .taken)
+
+more : (c : tie.Then1 Inv-loop μ-loop) → c .before .before .loop .off < c .before .before .before .before .before .before .before .before .args .k * 4
+more c =
+    let s = c .before .before .before .before .before .before .before .before .args in
+    let l = c .before .before .loop in
+    goes-on (λ i. sameCall (s .calls .now) (s .cargs .now) i (s .k)) (l .off) (l .off / 4) (s .k) (s .k * 4) (λ h. omega arith) (call-self (s .calls .now) (s .cargs .now) (s .k)) (passed c)
 
 add-off : tie.Need-add-off Inv-loop μ-loop
-add-off c = search needs
+add-off c = omega (arith, more c)
 
 loop-less : tie.Need-loop-less Inv-loop μ-loop
-loop-less c = search needs
+loop-less c = omega (arith, more c)
 
 loop-again : tie.Need-loop-again Inv-loop μ-loop
 loop-again c =
-    let s = c .before .before .before .before .before .before .before .before .before .args in
-    let l = c .before .before .before .loop in (
-      omega arith,
-      omega arith,
-      λ i h. below-more _ _ (l .inv .2)
-          (sym (same-call-at (s .calls .now) (s .cargs .now) (l .off) (s .k) (l .inv .1)) ∙ sym (c .before .call-is .ensures) ∙ c .if1 .left) i (omega arith),
-    )
+    let l = c .before .before .loop in
+    let m = more c in
+    (omega arith, omega arith, λ i h. below-more _ _ (l .inv .2) (passed c) i (omega arith))
 
-returns-2 : tie.Need-returns-2 Inv-loop μ-loop
-returns-2 c =
-    let s = c .before .before .before .before .before .before .before .args in
-    sym (ap not (none-yes (λ i. sameCall (s .calls .now) (s .cargs .now) i (s .k)) (s .k) (λ i h. c .before .loop .inv .2 i (omega arith))))
+returns : tie.Need-returns Inv-loop μ-loop
+returns c =
+    let s = c .before .before .before .before .before .before .before .before .args in
+    let l = c .before .before .loop in
+    found (λ i. sameCall (s .calls .now) (s .cargs .now) i (s .k)) (l .off) (l .off / 4) (s .k) (s .k * 4) (λ h. omega arith) (λ h. omega arith)
+    (sym (same-call-at (s .calls .now) (s .cargs .now) (l .off) (s .k) (l .inv .1)) ∙ sym (c .before .call-is .ensures) ∙ not-false _ (c .if1 .left)) (l .inv .2)
 
 pub call-dup-spec : {M : Type 1} → statement M
 call-dup-spec =
@@ -105,8 +112,7 @@ call-dup-spec =
     shared-slice-read-n
     loop-holds
     call-is-requires
-    returns
     add-off
     loop-less
     loop-again
-    returns-2)
+    returns)

@@ -1,14 +1,15 @@
 -- `tables::read_dup` meets its contract: no entry before the offset has the key. Assumes nothing.
 use Prim.Native.Nat.{ℕ, _≤_, _<_, _*_, _/_, _-_}
-use mathlib.Core.Path.{_≡_, _∙_, sym, ap}
-use mathlib.Core.Bool.{false, not}
+use mathlib.Core.Path.{_≡_, _∙_, sym}
+use mathlib.Core.Bool.{false}
 use native.Mathlib.Nat.{not-suc-le-zero}
 use native.Mathlib.Omega.{arith}
 use borrow.Author.Count.{below-more}
 use borrow.Author.Needs.{needs}
-use Rattle.lists.proofs.First.{none-yes, none-no}
+use borrow.Author.Tests.{not-true, not-false}
 use Rattle.lowering.specs.Tables.{sameRead}
-use Rattle.tables.proofs.ReadTable.{same-read-at}
+use Rattle.tables.proofs.ReadTable.{same-read-at, read-self}
+use Rattle.tables.proofs.Search.{goes-on, found}
 use Rattle.tables.proofs.read_dup.Statement.{statement}
 use Rattle.tables.proofs.read_dup.Tie as tie
 
@@ -45,33 +46,39 @@ loop-holds c = (omega arith, omega arith, λ l h. absurd (not-suc-le-zero h))
 read-is-requires : tie.Need-read-is-requires Inv-loop μ-loop
 read-is-requires c κs = search needs
 
-returns : tie.Need-returns Inv-loop μ-loop
-returns c =
-    let s = c .before .before .before .before .before .before .before .args in
-    let l = c .before .before .before .loop in
-    sym (ap not (none-no (λ i. sameRead (s .reads .now) i (s .k)) (s .k) (l .off / 3) (omega arith)
-    (sym (same-read-at (s .reads .now) (l .off) (s .k) (l .inv .1)) ∙ sym (c .before .read-is .ensures) ∙ c .if1 .taken) (l .inv .2)))
+-- the entry at the offset has another key
+passed : (c : tie.Then1 Inv-loop μ-loop)
+    → let s = c .before .before .before .before .before .before .args in
+    sameRead (s .reads .now) (c .before .before .loop .off / 3) (s .k) ≡ false
+passed c =
+    let s = c .before .before .before .before .before .before .args in
+    let l = c .before .before .loop in
+    sym (same-read-at (s .reads .now) (l .off) (s .k) (l .inv .1)) ∙ sym (c .before .read-is .ensures) ∙ not-true _ (c .if1 .taken)
+
+more : (c : tie.Then1 Inv-loop μ-loop) → c .before .before .loop .off < c .before .before .before .before .before .before .args .k * 3
+more c =
+    let s = c .before .before .before .before .before .before .args in
+    let l = c .before .before .loop in
+    goes-on (λ i. sameRead (s .reads .now) i (s .k)) (l .off) (l .off / 3) (s .k) (s .k * 3) (λ h. omega arith) (read-self (s .reads .now) (s .k)) (passed c)
 
 add-off : tie.Need-add-off Inv-loop μ-loop
-add-off c = search needs
+add-off c = omega (arith, more c)
 
 loop-less : tie.Need-loop-less Inv-loop μ-loop
-loop-less c = search needs
+loop-less c = omega (arith, more c)
 
 loop-again : tie.Need-loop-again Inv-loop μ-loop
 loop-again c =
-    let s = c .before .before .before .before .before .before .before .args in
-    let l = c .before .before .before .loop in (
-      omega arith,
-      omega arith,
-      λ i h. below-more _ _ (l .inv .2)
-          (sym (same-read-at (s .reads .now) (l .off) (s .k) (l .inv .1)) ∙ sym (c .before .read-is .ensures) ∙ c .if1 .left) i (omega arith),
-    )
+    let l = c .before .before .loop in
+    let m = more c in
+    (omega arith, omega arith, λ i h. below-more _ _ (l .inv .2) (passed c) i (omega arith))
 
-returns-2 : tie.Need-returns-2 Inv-loop μ-loop
-returns-2 c =
-    let s = c .before .before .before .before .before .args in
-    sym (ap not (none-yes (λ i. sameRead (s .reads .now) i (s .k)) (s .k) (λ i h. c .before .loop .inv .2 i (omega arith))))
+returns : tie.Need-returns Inv-loop μ-loop
+returns c =
+    let s = c .before .before .before .before .before .before .args in
+    let l = c .before .before .loop in
+    found (λ i. sameRead (s .reads .now) i (s .k)) (l .off) (l .off / 3) (s .k) (s .k * 3) (λ h. omega arith) (λ h. omega arith)
+    (sym (same-read-at (s .reads .now) (l .off) (s .k) (l .inv .1)) ∙ sym (c .before .read-is .ensures) ∙ not-false _ (c .if1 .left)) (l .inv .2)
 
 pub read-dup-spec : {M : Type 1} → statement M
 read-dup-spec =
@@ -88,8 +95,7 @@ read-dup-spec =
     shared-slice-read-index
     loop-holds
     read-is-requires
-    returns
     add-off
     loop-less
     loop-again
-    returns-2)
+    returns)
