@@ -12,10 +12,10 @@ use Rattle.book.specs.Words.{listOf, loaded}
 abbrev word : ℕ → List ℕ
 word n = n ∷ 0 ∷ 0 ∷ 0 ∷ 0 ∷ 0 ∷ 0 ∷ 0 ∷ []
 
-abbrev entry : ℕ → ℕ → List ℕ
+abbrev pub entry : ℕ → ℕ → List ℕ
 entry start len = word start ++ word len
 
-unfoldable copies : ℕ → List ℕ → List ℕ
+unfoldable pub copies : ℕ → List ℕ → List ℕ
 copies zero e = []
 copies (suc n) e = e ++ copies n e
 

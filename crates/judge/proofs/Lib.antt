@@ -1,3 +1,4 @@
 pub mod Outcome
 pub mod Room
 pub mod Sound
+pub mod Cases

@@ -1,0 +1,22 @@
+-- Verdicts computed: 01's empty book, the empty input. Assumes nothing.
+use Prim.Native.Nat.{ℕ}
+use mathlib.Core.Path.{_≡_, refl}
+use mathlib.Core.List.{List, []}
+use Rattle.answers.specs.declared.Answer.the-variants.{Accepted, BookShape}
+use Rattle.lists.specs.First.{first}
+use Rattle.lists.specs.Build.{build}
+use Rattle.lists.specs.Trace.{trace}
+use Rattle.lowering.specs.Roots.{leads, pairsWith, pairs}
+use Rattle.lowering.specs.Check.{firstRefusal}
+use Rattle.book.proofs.Cases.{entry, copies}
+use Rattle.judge.specs.Judge.{verdict}
+
+-- "The book of eleven empty bodies, each start 176, prints `accepted`"
+empty-book : verdict (copies 11 (entry 176 0)) ≡ Accepted
+unfolding first build trace firstRefusal leads pairsWith pairs copies
+empty-book = refl
+
+-- "Empty input prints `refused 20 0 0`"
+empty-input : verdict [] ≡ BookShape 0
+unfolding first
+empty-input = refl
