@@ -154,6 +154,50 @@ gilfrunt_answer gilfrunt_check(
     uint64_t *classes, size_t classes_len,
     uint64_t *entries, size_t entries_len);
 
+/* Whether a book has a section of this number, 1 to 11. Answers the first of
+ * these that applies:
+ *
+ *   24                     number is outside 1 to 11
+ *   20  place 0            book_len is under 176
+ *       place 1 to 11      first section that does not start where the last ended
+ *                          (the first at 176), runs past the end, or is no whole
+ *                          words (2 and 10, the bits, need not be)
+ *       place 12           bytes left over after the last section
+ *    0                     accepted
+ */
+gilfrunt_answer gilfrunt_section_answer(
+    const uint8_t *book, size_t book_len,
+    uint64_t number);
+
+/* Where that section stands in the book; 0 and 0 where gilfrunt_section_answer
+ * refuses. The section is the stretch of the caller's book, not a copy.
+ */
+typedef struct gilfrunt_stretch {
+    uint64_t start;
+    uint64_t length;
+} gilfrunt_stretch;
+
+gilfrunt_stretch gilfrunt_section(
+    const uint8_t *book, size_t book_len,
+    uint64_t number);
+
+/* The verdict on a book: 20 as above, or the answer of gilfrunt_check on the
+ * lists that the book holds. The first four lists are gilfrunt_check's; words
+ * takes the words of the book's sections, one section after the other (2 and 10
+ * have none), and is the fifth place of 18, after gilfrunt_check's own 15 and 18.
+ *
+ * 0 leaves in the first four what gilfrunt_check leaves, in words the book's
+ * words, and zeros after them. 15 and 18 write nothing; every other refusal sets
+ * all five lists to 0. The book is only read.
+ */
+gilfrunt_answer gilfrunt_judge(
+    const uint8_t *book, size_t book_len,
+    uint64_t *source_widths, size_t source_widths_len,
+    uint64_t *target_widths, size_t target_widths_len,
+    uint64_t *classes, size_t classes_len,
+    uint64_t *entries, size_t entries_len,
+    uint64_t *words, size_t words_len);
+
 #ifdef __cplusplus
 }
 #endif
