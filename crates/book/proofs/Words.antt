@@ -1,16 +1,16 @@
 -- The words of a book: how many there are, and where each section's stand. Assumes nothing.
 use Prim.Native.Nat.{ℕ, zero, suc, _+_, _-_, _*_, _/_, _≤_, _<_, zero-le}
 use mathlib.Core.Path.{_≡_, refl, sym, ap, _∙_}
-use mathlib.Core.Bool.{Bool, true, false, cond}
+use mathlib.Core.Bool.{Bool, true, false}
 use mathlib.Core.List.{List, [], _++_, append-assoc, append-nil}
-use native.Mathlib.Nat.{add-zero, add-suc}
+use native.Mathlib.Nat.{add-zero}
 use native.Mathlib.Omega.{arith}
 use lib.ListN.{length, set, take, drop, length-append, length-drop, take-append-drop}
 use lib.Seq.{take-at, drop-at, drop-drop, drop-append-add, drop-length, length-take-le}
 use borrow.Rule.Slice.PartMut.{midOf, postOf, putMid, post-is, mid-len}
 use Rattle.lists.specs.Build.{build}
 use Rattle.lists.proofs.Build.{build-length, build-start, build-store}
-use Rattle.book.specs.Book.{wordAt, sections, contents, startOf, lengthOf, endOf, dueAt, isBits, body}
+use Rattle.book.specs.Book.{wordAt, sections, contents, startOf, lengthOf, dueAt, isBits, body}
 use Rattle.book.specs.Words.{wordsOf, listOf, loaded, Good}
 use Rattle.book.proofs.Shape.{good-book}
 

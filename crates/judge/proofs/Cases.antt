@@ -1,7 +1,6 @@
 -- Verdicts computed: 01's empty book, the empty input. Assumes nothing.
-use Prim.Native.Nat.{ℕ}
 use mathlib.Core.Path.{_≡_, refl}
-use mathlib.Core.List.{List, []}
+use mathlib.Core.List.{[]}
 use Rattle.answers.specs.declared.Answer.the-variants.{Accepted, BookShape}
 use Rattle.lists.specs.First.{first}
 use Rattle.lists.specs.Build.{build}

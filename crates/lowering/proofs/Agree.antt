@@ -2,7 +2,7 @@
 -- share. The leaves (variables, read entries, call entries) are parameters, which may use what is already known of earlier rows. Assumes nothing.
 use Prim.Native.Nat.{ℕ, zero, suc, _+_, _<_, _≤_}
 use mathlib.Core.Path.{_≡_, refl, sym, ap, _∙_, subst}
-use mathlib.Core.Bool.{Bool, true, false, cond, not}
+use mathlib.Core.Bool.{Bool, true, false, cond}
 use mathlib.Core.List.{List, [], _∷_, map}
 use native.Mathlib.Omega.{arith}
 use borrow.Author.Tests.{eq-eqb, ne-eqb}
@@ -23,8 +23,8 @@ use Rattle.rows.specs.Node.{operands}
 use Rattle.wf.specs.Rule.{indexWidth, cellWidth}
 use Rattle.wf.specs.Promise.{Below, RowFormed}
 use Rattle.value.specs.Val.{Val, val, wid, nat}
-use Rattle.value.specs.Operate.{operate, parameters, constNumber}
-use Rattle.value.specs.Graph.{nodeValue, value, Assigns}
+use Rattle.value.specs.Operate.{operate, constNumber}
+use Rattle.value.specs.Graph.{nodeValue, Assigns}
 use Rattle.meaning.specs.Meaning.{Interpretation, stored, sourceNode, sourceValue}
 use Rattle.lowering.specs.declared.Walk.{Walk}
 use Rattle.lowering.specs.declared.Walk.the-variants.{Met, Lost}

@@ -1,7 +1,7 @@
 -- What a congruence root says under an assignment: the antecedent and the conclusion as equations of values. Assumes nothing.
 use Prim.Native.Nat.{ℕ, zero, suc, _-_, _<_, _≤_}
 use mathlib.Core.Path.{_≡_, refl, sym, ap, _∙_}
-use mathlib.Core.Bool.{Bool, true, false, cond, not}
+use mathlib.Core.Bool.{Bool, true, false, cond}
 use mathlib.Core.Logic.{_⊎_, ⊎-elim}
 use mathlib.Core.List.{[]}
 use native.Mathlib.Nat.{eq-or-lt-of-le}

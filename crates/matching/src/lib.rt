@@ -10,7 +10,7 @@ ghost use Rattle.images.specs.Bits.{BitsWithin, ConstsWithin};
 ghost use Rattle.lists.specs.Tests.{agree};
 ghost use Rattle.lowering.specs.declared.Walk.{Walk};
 ghost use Rattle.lowering.specs.Images.{mapAt, sameConst};
-ghost use Rattle.lowering.specs.Matching.{isEq, walk, endGood, endClasses, callMatches, varMatches, nodeMatches, matched, nodeAnswer, nodeClasses, rowAnswer, rowClasses, classesTo, refusedRow, rowsAnswer, deadEntry};
+ghost use Rattle.lowering.specs.Matching.{walk, endGood, endClasses, callMatches, varMatches, nodeMatches, matched, nodeAnswer, nodeClasses, rowAnswer, rowClasses, classesTo, refusedRow, rowsAnswer, deadEntry};
 ghost use Rattle.rows.specs.declared.Graph.{Graph};
 ghost use Rattle.rows.specs.Row.{rowCount, rowAt};
 ghost use Rattle.rows.specs.Tags.{either};

@@ -1,8 +1,7 @@
 // Node rows: the row reader, the accessors, the decoder and the rules of a good encoding.
 ghost use mathlib.Core.Path.{_≡_};
-ghost use mathlib.Core.Bool.{not, false};
+ghost use mathlib.Core.Bool.{false};
 ghost use Prim.Native.Nat.{ℕ, _<_, _≤_, _+_, _*_, _/_};
-ghost use lib.Dec.{ltb};
 ghost use lib.ListN.{length, getD};
 ghost use Rattle.rows.specs.Row.{graphNumber, rowCount, ragged, rowAt};
 ghost use Rattle.rows.specs.Node.{nodeFrom, nodeOf, rowEq};

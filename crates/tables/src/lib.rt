@@ -1,7 +1,7 @@
 // The two tables: their entries are checked in order, and each marks its variable.
 ghost use mathlib.Core.Path.{_≡_};
 ghost use mathlib.Core.Bool.{not};
-ghost use Prim.Native.Nat.{ℕ, _<_, _≤_, _+_, _*_};
+ghost use Prim.Native.Nat.{_<_, _≤_, _+_, _*_};
 ghost use lib.ListN.{length, getD};
 ghost use Rattle.lists.specs.First.{none};
 ghost use Rattle.rows.specs.declared.Graph.{Graph};

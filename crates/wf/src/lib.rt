@@ -1,11 +1,10 @@
 // Well-formedness of a graph: each row against the widths of the rows before it.
 ghost use mathlib.Core.Path.{_≡_};
-ghost use mathlib.Core.Bool.{Bool};
 ghost use mathlib.Core.List.{[], _++_};
 ghost use Prim.Native.Nat.{_+_, _*_, _<_, _≤_};
-ghost use lib.ListN.{length, getD, drop};
+ghost use lib.ListN.{length, drop};
 ghost use Rattle.lists.specs.First.{none};
-ghost use Rattle.rows.specs.Row.{rowCount, rowAt};
+ghost use Rattle.rows.specs.Row.{rowCount};
 ghost use Rattle.rows.specs.declared.Node.{Node};
 ghost use Rattle.wf.specs.Rule.{capped, unWidth, binWidth, extractWidth, iteWidth, hasWidth, pairBad, chainGood, argBad, argsGood, nodeWidth};
 ghost use Rattle.wf.specs.Widths.{widthsTo, goodWidth, stopRow, badRoot};

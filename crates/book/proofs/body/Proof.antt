@@ -1,9 +1,6 @@
 -- `book::body` meets its contract. Assumes nothing.
 use Prim.Native.Nat.{_≤_}
-use mathlib.Core.Path.{_≡_, ap, _∙_}
-use native.Mathlib.Omega.{arith}
 use lib.ListN.{length}
-use Rattle.book.specs.Book.{endOf}
 use Rattle.book.proofs.Shape.{good-book, body-is}
 use borrow.Author.Needs.{needs}
 use Rattle.book.proofs.body.Statement.{statement}

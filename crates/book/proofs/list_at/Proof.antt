@@ -1,9 +1,8 @@
 -- `book::list_at` meets its contract. Assumes nothing.
 use Prim.Native.Nat.{_≤_}
-use mathlib.Core.Path.{_≡_}
 use native.Mathlib.Omega.{arith}
 use lib.ListN.{length}
-use Rattle.book.proofs.Words.{Part, part}
+use Rattle.book.proofs.Words.{part}
 use borrow.Author.Needs.{needs}
 use Rattle.book.proofs.list_at.Statement.{statement}
 use Rattle.book.proofs.list_at.Tie as tie

@@ -1,6 +1,6 @@
 -- `book::word_count` meets its contract. Assumes nothing.
 use mathlib.Core.Path.{_≡_, sym, _∙_}
-use mathlib.Core.Bool.{true, false}
+use mathlib.Core.Bool.{true}
 use Rattle.book.specs.Book.{isBits}
 use Rattle.book.proofs.Shape.{good-book}
 use Rattle.book.proofs.Words.{words-count}

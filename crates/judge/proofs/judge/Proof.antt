@@ -1,17 +1,13 @@
 -- `judge::judge` meets its contract. Assumes nothing.
 use Prim.Native.Nat.{_≤_}
-use native.Mathlib.Omega.{arith}
 use lib.ListN.{length}
 use Rattle.checker.proofs.Outcome.{zeros-long}
 use Rattle.book.specs.Book.{sections}
 use Rattle.book.proofs.Words.{filled-rest}
 use Rattle.judge.specs.Judge.{bookWords}
-use mathlib.Core.Path.{_≡_, refl, sym, _∙_}
-use mathlib.Core.Bool.{true, false}
+use mathlib.Core.Path.{refl, sym, _∙_}
 use borrow.Author.Tests.{not-true, not-false}
-use Rattle.answers.specs.Answer.{isAccepted}
-use Rattle.book.specs.Book.{bookAnswer}
-use Rattle.judge.proofs.Outcome.{room, shape-done, room-done, check-refused, check-accepted, words-fit, by-lists, words-cleared}
+use Rattle.judge.proofs.Outcome.{shape-done, room-done, check-refused, check-accepted, words-fit, by-lists, words-cleared}
 use borrow.Author.Needs.{needs}
 use Rattle.judge.proofs.judge.Statement.{statement}
 use Rattle.judge.proofs.judge.Tie as tie

@@ -1,5 +1,5 @@
 -- `judge::verdict` meets its contract. Assumes nothing.
-use mathlib.Core.Path.{_≡_, ap, _∙_}
+use mathlib.Core.Path.{ap, _∙_}
 use native.Mathlib.Omega.{arith}
 use Rattle.judge.specs.Judge.{Judged}
 use Rattle.judge.proofs.Room.{too-long, verdict-is}
