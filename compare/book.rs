@@ -101,6 +101,18 @@ fn body(book: &[u8], section: usize) -> &[u8] {
     &book[start..start + word(book, 16 * section + 8) as usize]
 }
 
+/// The answer about a section by its number, and its stretch, which is empty
+/// after a refusal.
+pub fn section(book: &[u8], number: u64) -> (Answer, &[u8]) {
+    if !(1..=SECTIONS as u64).contains(&number) {
+        return (answer(24, 0, 0), &[]);
+    }
+    match shape(book) {
+        Shape::Good => (ACCEPTED, body(book, number as usize - 1)),
+        bad => (bad.answer(), &[]),
+    }
+}
+
 /// The lists that a good book holds, and work lists as long as their graphs.
 pub fn held(book: &[u8]) -> Lists {
     let words = |bytes: &[u8]| {

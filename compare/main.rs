@@ -25,6 +25,7 @@ mod grid;
 mod large;
 mod list;
 mod listed;
+mod listedbooks;
 mod lowering;
 mod marked;
 mod misfits;
