@@ -4,9 +4,11 @@
 
 use std::collections::BTreeSet;
 
+use crate::book;
 use crate::check::{self, CHECK};
 use crate::graphs::{Builder, Style};
 use crate::listed;
+use crate::listedbooks;
 use crate::operation::{Kind, Lists, Operation, Outcome, OPERATIONS};
 use crate::ours::Answer;
 use crate::random::Random;
@@ -39,8 +41,12 @@ const MIDDLE: Limits = Limits {
 const CHOICE: usize = 20;
 
 /// Every line has fewer words, and the list fewer bytes, than this.
-const WORDS: usize = 500;
-const BYTES: usize = 200_000;
+const WORDS: usize = 1_000;
+const BYTES: usize = 250_000;
+
+/// The numbers of the operations on books.
+const VERDICT: u64 = 6;
+const SECTION: u64 = 7;
 
 /// How many random cases of an answer an operation gets.
 const WANTED: [(u64, usize); 8] = [
@@ -112,6 +118,7 @@ pub fn list(seed: u64) -> bool {
     }
     good &= showing_features(&mut random, &mut list);
     good &= showing_edges(&mut random, &mut list);
+    good &= list.add_books(&mut random);
     list.lines.iter().for_each(|line| println!("{line}"));
     list.complete() && good
 }
@@ -257,6 +264,34 @@ impl List {
         }
     }
 
+    /// Adds the books; false if an answer that a short book can get is missing.
+    fn add_books(&mut self, random: &mut Random) -> bool {
+        let mut answers = BTreeSet::new();
+        for book in listedbooks::verdicts(random) {
+            let answer = book::verdict(&book);
+            answers.insert((VERDICT, answer.number, by_place(answer)));
+            self.add_line(words_line(VERDICT, &[bytes(&book)], answer, &[]));
+        }
+        for (book, number) in listedbooks::sections() {
+            let (answer, stretch) = book::section(&book, number);
+            answers.insert((SECTION, answer.number, by_place(answer)));
+            let lists = [bytes(&book), vec![number]];
+            self.add_line(words_line(SECTION, &lists, answer, &[bytes(stretch)]));
+        }
+        let checks = (0..18).map(|number| (VERDICT, number, 0));
+        let shapes = (0..=12).map(|place| (VERDICT, 20, place));
+        let sections = [(SECTION, 0, 0), (SECTION, 20, 0), (SECTION, 24, 0)];
+        let mut due = checks.chain(shapes).chain(sections);
+        due.all(|answer| answers.contains(&answer))
+    }
+
+    /// Adds a line, unless it is there already.
+    fn add_line(&mut self, line: String) {
+        if !self.lines.contains(&line) {
+            self.lines.push(line);
+        }
+    }
+
     /// Every tag taken, MAX on both sides, and within its length? The answer
     /// numbers are all there because `some` looked for each.
     fn complete(&self) -> bool {
@@ -295,21 +330,37 @@ fn rows(operation: &dyn Operation, lists: &Lists) -> usize {
     }
 }
 
-/// Operation, its lists, the answer, and the lent lists after the call.
+/// The place of 20; the other numbers count as one each.
+fn by_place(answer: Answer) -> u64 {
+    if answer.number == 20 {
+        answer.place
+    } else {
+        0
+    }
+}
+
+fn bytes(book: &[u8]) -> Vec<u64> {
+    book.iter().map(|&byte| u64::from(byte)).collect()
+}
+
+/// A case with its outcome.
 fn line(operation: &dyn Operation, lists: &Lists, outcome: &Outcome) -> String {
-    let mut words = vec![operation.number(), lists.len() as u64];
-    lists.iter().for_each(|list| push_list(&mut words, list));
-    let answer = outcome.answer;
-    words.extend([answer.number, answer.place, answer.detail]);
     let kinds = operation.lists().iter();
-    let lent: Vec<&Vec<u64>> = kinds
+    let lent: Lists = kinds
         .zip(&outcome.lists)
         .filter(|((_, kind), _)| matches!(kind, Kind::Lent(_)))
-        .map(|(_, list)| list)
+        .map(|(_, list)| list.clone())
         .collect();
+    words_line(operation.number(), lists, outcome.answer, &lent)
+}
+
+/// Operation, its lists, the answer, and the lent lists after the call.
+fn words_line(operation: u64, lists: &[Vec<u64>], answer: Answer, lent: &[Vec<u64>]) -> String {
+    let mut words = vec![operation, lists.len() as u64];
+    lists.iter().for_each(|list| push_list(&mut words, list));
+    words.extend([answer.number, answer.place, answer.detail]);
     words.push(lent.len() as u64);
-    lent.into_iter()
-        .for_each(|list| push_list(&mut words, list));
+    lent.iter().for_each(|list| push_list(&mut words, list));
     let shown: Vec<String> = words.iter().map(|word| format!("{word:x}")).collect();
     shown.join(" ")
 }

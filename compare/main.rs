@@ -3,11 +3,14 @@
 //! `compare` runs many cases through both, `list` writes a fixed list of cases
 //! with the expected outcomes, `bench` takes times, `smt` writes the library's
 //! values as a script for a solver, `check-self` holds two statements of Check
-//! against each other. docs/COMPARISON.md tells more; `compare/run` builds and
-//! starts this program.
+//! against each other, `books` gives books to the program `verdict`, `slow` times it.
+//! docs/COMPARISON.md tells more; `compare/run` builds and starts this program.
 
 mod bench;
 mod bench_check;
+mod book;
+mod bookdamage;
+mod books;
 mod chains;
 mod changes;
 mod check;
@@ -22,6 +25,7 @@ mod grid;
 mod large;
 mod list;
 mod listed;
+mod listedbooks;
 mod lowering;
 mod marked;
 mod misfits;
@@ -38,6 +42,7 @@ mod rules;
 mod selftest;
 mod show;
 mod shrink;
+mod slow;
 mod smt;
 mod sources;
 mod spoil;
@@ -52,16 +57,17 @@ use std::process::ExitCode;
 
 use operation::{Operation, OPERATIONS};
 
-const USAGE: &str =
-    "usage: [compare|bench|list|smt|check-self] [--seed N] [--cases N] [--rows N] [--only NAME]";
+const USAGE: &str = "usage: [compare|bench|list|smt|check-self|books|slow] \
+[--seed N] [--cases N] [--rows N] [--only NAME] [--verdict PROGRAM]";
 
 /// The words of the command line.
 struct Command {
     what: String,
     seed: u64,
-    cases: u64,
+    cases: Option<u64>,
     rows: u64,
     only: Option<&'static dyn Operation>,
+    verdict: String,
 }
 
 /// The operation of this name, its words joined by hyphens.
@@ -74,17 +80,21 @@ fn command(mut words: impl Iterator<Item = String>) -> Option<Command> {
     let mut command = Command {
         what: "compare".to_string(),
         seed: 1,
-        cases: 1_000_000,
+        cases: None,
         rows: 20_000,
         only: None,
+        verdict: "target/bin/verdict".to_string(),
     };
     while let Some(word) = words.next() {
         match word.as_str() {
             "--seed" => command.seed = words.next()?.parse().ok()?,
-            "--cases" => command.cases = words.next()?.parse().ok()?,
+            "--cases" => command.cases = Some(words.next()?.parse().ok()?),
             "--rows" => command.rows = words.next()?.parse().ok()?,
             "--only" => command.only = Some(operation(&words.next()?)?),
-            "compare" | "bench" | "list" | "smt" | "check-self" => command.what = word,
+            "--verdict" => command.verdict = words.next()?,
+            "compare" | "bench" | "list" | "smt" | "check-self" | "books" | "slow" => {
+                command.what = word
+            }
             _ => return None,
         }
     }
@@ -96,12 +106,18 @@ fn main() -> ExitCode {
         eprintln!("{USAGE}");
         return ExitCode::from(2);
     };
+    let cases = command.cases.unwrap_or(match command.what.as_str() {
+        "books" => 50_000,
+        _ => 1_000_000,
+    });
     let good = match command.what.as_str() {
         "bench" => bench::bench(command.seed) && bench_check::bench(command.seed),
         "list" => list::list(command.seed),
         "smt" => smt::smt(command.seed, command.rows),
-        "check-self" => selftest::selftest(command.seed, command.cases),
-        _ => compare::compare(command.seed, command.cases, command.only),
+        "check-self" => selftest::selftest(command.seed, cases),
+        "books" => books::books(command.seed, cases, &command.verdict),
+        "slow" => slow::slow(&command.verdict),
+        _ => compare::compare(command.seed, cases, command.only),
     };
     ExitCode::from(if good { 0 } else { 1 })
 }

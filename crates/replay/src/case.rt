@@ -5,6 +5,7 @@ ghost use mathlib.Core.Bool.{true};
 ghost use Prim.Native.Nat.{_≤_};
 ghost use lib.ListN.{length, take};
 ghost use Rattle.io.specs.Counts.{Counts};
+use crate::text;
 use answers::Words;
 
 // A place that no case has.
@@ -120,6 +121,23 @@ pub fn same_list(a: &[u64], b: &[u64]) -> bool
     let mut i = 0;
     while i < a.len() {
         if a[i] != b[i] {
+            return false;
+        }
+        i += 1;
+    }
+    true
+}
+
+// Whether bytes are a list's words.
+pub fn same_bytes(a: &[u8], b: &[u64]) -> bool
+    ensures equal { λ r. ⌜ (r ≡ true → now (a .entry) ≡ now (b .entry)) × (now (a .entry) ≡ now (b .entry) → r ≡ true) ⌝ }
+{
+    if a.len() != b.len() {
+        return false;
+    }
+    let mut i = 0;
+    while i < a.len() {
+        if text::wide(a[i]) != b[i] {
             return false;
         }
         i += 1;

@@ -3,8 +3,8 @@ ghost use Prim.Native.Nat.{_<_};
 use crate::case;
 use answers::Words;
 
-// The longest list of bits and the longest lent list: a line has no more words.
-pub const ROOM: usize = 512;
+// The longest list of bits, the longest book and the longest lent list: a line has no more words.
+pub const ROOM: usize = 1024;
 
 // Whether the library answers a case as expected. Malformed cases and unknown operations do not agree.
 pub fn agrees(words: &[u64]) -> bool {
@@ -18,6 +18,8 @@ pub fn agrees(words: &[u64]) -> bool {
         3 => roots_agree(words),
         4 => values_agree(words),
         5 => check_agrees(words),
+        6 => book_agrees(words),
+        7 => section_agrees(words),
         _ => false,
     }
 }
@@ -205,4 +207,57 @@ fn check_agrees(words: &[u64]) -> bool {
         return false;
     }
     lowering_agrees(words, &ebits[..n], &tbits[..m])
+}
+
+// The verdict on a book: its bytes are list 0.
+fn book_agrees(words: &[u64]) -> bool {
+    if !case::has_shape(words, 1, 0) {
+        return false;
+    }
+    let list = case::given(words, 0);
+    let n = list.len();
+    if ROOM < n {
+        return false;
+    }
+    let mut bytes = [0u8; ROOM];
+    if !case::copy_bytes(list, &mut bytes) {
+        return false;
+    }
+    let answer = judge::verdict(&bytes[..n]);
+    case::same_answer(words, answers::words_of(answer))
+}
+
+// Compares the answer about a section and its stretch, which is the list afterwards.
+fn same_stretch(words: &[u64], book: &[u8], number: u64) -> bool {
+    let answer = book::section_answer(book, number);
+    if !case::same_answer(words, answers::words_of(answer)) {
+        return false;
+    }
+    case::same_bytes(book::section(book, number), case::expected(words, 0))
+}
+
+// With the section's number, the one word of list 1.
+fn same_section(words: &[u64], book: &[u8]) -> bool {
+    let numbers = case::given(words, 1);
+    if numbers.len() != 1 {
+        return false;
+    }
+    same_stretch(words, book, numbers[0])
+}
+
+// A section of a book: the bytes are list 0.
+fn section_agrees(words: &[u64]) -> bool {
+    if !case::has_shape(words, 2, 1) {
+        return false;
+    }
+    let list = case::given(words, 0);
+    let n = list.len();
+    if ROOM < n {
+        return false;
+    }
+    let mut bytes = [0u8; ROOM];
+    if !case::copy_bytes(list, &mut bytes) {
+        return false;
+    }
+    same_section(words, &bytes[..n])
 }

@@ -10,7 +10,7 @@ struct Token {
     next: usize,
 }
 
-fn wide(x: u8) -> u64
+pub fn wide(x: u8) -> u64
     ensures value { λ r. ⌜ (r ≡ x) × (r < 256) ⌝ }
 {
     x as u64

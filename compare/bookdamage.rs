@@ -1,0 +1,229 @@
+//! Random books: those of Check's generators, whole or damaged, and others.
+
+use crate::book::{draft, is_bits, Draft, CONTENTS, LONGEST, SECTIONS};
+use crate::check::{self, at, CHECK};
+use crate::marked;
+use crate::operation::{Lists, Operation};
+use crate::random::Random;
+use crate::tags::VAR;
+
+const MAX: u64 = u64::MAX;
+
+/// A random input for the program.
+pub fn generate(random: &mut Random) -> Vec<u8> {
+    let rows = random.pick(&[4, 8, 16, 40]);
+    match random.below(100) {
+        0..=49 => draft(&CHECK.generate(random, rows)).bytes(),
+        50..=51 => sized(random),
+        52..=53 => noise(random),
+        54..=55 => bodies_of_noise(random),
+        56..=59 => one_byte(random),
+        _ => damaged(random, rows),
+    }
+}
+
+/// A book with one or two damages to its contents or its length.
+fn damaged(random: &mut Random, rows: usize) -> Vec<u8> {
+    let lists = match random.below(4) {
+        0 => random_marked(random),
+        1 => vec![vec![]; SECTIONS],
+        2 => check::undamaged(random, rows),
+        _ => CHECK.generate(random, rows),
+    };
+    let mut draft = draft(&lists);
+    let times = random.pick(&[1, 1, 1, 2]);
+    (0..times).for_each(|_| bend(random, &mut draft));
+    let mut bytes = draft.bytes();
+    if random.once_in(4) {
+        cut(random, &mut bytes);
+    }
+    bytes
+}
+
+fn random_marked(random: &mut Random) -> Lists {
+    let mut cases = marked::accepted();
+    let place = random.place(cases.len());
+    cases.swap_remove(place)
+}
+
+fn bend(random: &mut Random, draft: &mut Draft) {
+    let section = random.place(SECTIONS);
+    match random.below(11) {
+        0 | 1 => bend_word(random, draft, section),
+        2 => move_border(random, draft, section),
+        3 => wrap(random, draft, section),
+        4 => open_gap(random, draft, section),
+        5 => past_end(random, draft, section),
+        6 => draft.contents.swap(section, random.place(SECTIONS)),
+        7 => draft.contents[section].swap(0, 1),
+        8 => part_word(random, draft, section),
+        9 => empty_rest(draft, section),
+        _ => left_over(random, draft),
+    }
+}
+
+/// A start or a length, near its old word or at an edge.
+fn bend_word(random: &mut Random, draft: &mut Draft, section: usize) {
+    let end = (CONTENTS + draft.bodies.len()) as u64;
+    let word = &mut draft.contents[section][random.place(2)];
+    let near = random.pick(&[1, 2, 7, 8, 9, 16, 176]);
+    *word = match random.below(6) {
+        0 => word.wrapping_add(near),
+        1 => word.wrapping_sub(near),
+        2 => word.wrapping_add(1 << random.pick(&[16, 31, 32, 48, 63])),
+        3 => word.swap_bytes(),
+        4 => random.pick(&[0, 8, 176, end - 1, end, end + 1, 65_536, 65_537]),
+        _ => random.pick(&[MAX, MAX - 7, MAX - 8, 1 << 63, 1 << 32]),
+    };
+}
+
+/// Bytes of a section counted to the one after it, or the other way round; by
+/// eight the shape may stay good.
+fn move_border(random: &mut Random, draft: &mut Draft, section: usize) {
+    let later = (section + 1) % SECTIONS;
+    let bytes = random.pick(&[1, 3, 4, 8, 8, 16, 24, 40]);
+    if random.once_in(2) {
+        draft.contents[section][1] = draft.contents[section][1].wrapping_add(bytes);
+        draft.contents[later][0] = draft.contents[later][0].wrapping_add(bytes);
+        draft.contents[later][1] = draft.contents[later][1].wrapping_sub(bytes);
+    } else {
+        draft.contents[section][1] = draft.contents[section][1].wrapping_sub(bytes);
+        draft.contents[later][0] = draft.contents[later][0].wrapping_sub(bytes);
+        draft.contents[later][1] = draft.contents[later][1].wrapping_add(bytes);
+    }
+}
+
+/// A length near 2^64, so that the sum with the start wraps to a place in the
+/// book, where the section after it starts; the one after that goes on from the
+/// same place as before.
+fn wrap(random: &mut Random, draft: &mut Draft, section: usize) {
+    let start = draft.contents[section][0];
+    let back = random.pick(&[0, 8, 16, 176, start]);
+    draft.contents[section][1] = 0u64.wrapping_sub(back);
+    if section + 1 < SECTIONS {
+        let [_, length] = draft.contents[section + 1];
+        let end = draft.contents[section + 1][0].wrapping_add(length);
+        let due = start.wrapping_sub(back);
+        draft.contents[section + 1] = [due, end.wrapping_sub(due)];
+    }
+}
+
+/// Bytes between two bodies, with all later starts moved on.
+fn open_gap(random: &mut Random, draft: &mut Draft, section: usize) {
+    let bytes = random.pick(&[1, 8]);
+    let place = draft.place(draft.contents[section][0]);
+    draft.bodies.splice(place..place, vec![0; bytes]);
+    for entry in &mut draft.contents[section..] {
+        entry[0] = entry[0].wrapping_add(bytes as u64);
+    }
+}
+
+/// A section that ends some bytes past the end, all later ones starting there.
+fn past_end(random: &mut Random, draft: &mut Draft, section: usize) {
+    let end = (CONTENTS + draft.bodies.len()) as u64;
+    let start = draft.contents[section][0].min(end);
+    let more = random.pick(&[1, 2, 8, 8, 16, 65_536]);
+    draft.contents[section] = [start, end - start + more];
+    let due = end + more;
+    draft.contents[section + 1..].fill([due, 0]);
+}
+
+/// Bytes put behind a body and counted in its length, with later starts moved on.
+fn part_word(random: &mut Random, draft: &mut Draft, section: usize) {
+    let bytes = 1 + random.place(8);
+    let end = draft.contents[section][0].saturating_add(draft.contents[section][1]);
+    let place = draft.place(end);
+    let fill = random.below(3) as u8;
+    draft.bodies.splice(place..place, vec![fill; bytes]);
+    draft.contents[section][1] = draft.contents[section][1].wrapping_add(bytes as u64);
+    for entry in &mut draft.contents[section + 1..] {
+        entry[0] = entry[0].wrapping_add(bytes as u64);
+    }
+}
+
+/// Sections from this one on empty, the bytes behind it left over or dropped.
+fn empty_rest(draft: &mut Draft, section: usize) {
+    let start = draft.contents[section][0];
+    draft.contents[section..].fill([start, 0]);
+    if section % 2 == 0 {
+        draft.bodies.truncate(draft.place(start));
+    }
+}
+
+fn left_over(random: &mut Random, draft: &mut Draft) {
+    let bytes = random.pick(&[1, 1, 7, 8, 9, 16, 200]);
+    draft.bodies.extend((0..bytes).map(|k| k as u8));
+}
+
+/// A book cut at any place, or near the end of its contents.
+fn cut(random: &mut Random, bytes: &mut Vec<u8>) {
+    let any = random.place(bytes.len() + 1);
+    let near = CONTENTS - 2 + random.place(5);
+    let last = bytes.len().saturating_sub(1 + random.place(9));
+    bytes.truncate(random.pick(&[any, any, near, near, last, last]));
+}
+
+/// Any bytes: none, few, about as many as the contents, or many.
+fn noise(random: &mut Random) -> Vec<u8> {
+    let few = random.place(20);
+    let near = CONTENTS - 3 + random.place(6);
+    let many = random.pick(&[500, LONGEST - 1, LONGEST, LONGEST + 1, 70_000, 200_000]);
+    let length = random.pick(&[0, few, near, near, many]);
+    let mask = random.pick(&[0, 1, 0xff]);
+    (0..length).map(|_| random.word() as u8 & mask).collect()
+}
+
+/// Good contents over any bytes.
+fn bodies_of_noise(random: &mut Random) -> Vec<u8> {
+    let mask = random.pick(&[1, 7, 63, MAX]);
+    let list = |section| {
+        let length = random.place(12);
+        let any = (0..length).map(|_| random.word());
+        match is_bits(section) {
+            true => any.map(|word| word & mask & 0xff).collect(),
+            false => any.map(|word| word & mask).collect(),
+        }
+    };
+    let lists: Lists = (0..SECTIONS).map(list).collect();
+    draft(&lists).bytes()
+}
+
+/// A book with one byte changed, in the contents or anywhere.
+fn one_byte(random: &mut Random) -> Vec<u8> {
+    let rows = random.pick(&[4, 8, 16]);
+    let mut bytes = draft(&check::undamaged(random, rows)).bytes();
+    let place = match random.below(3) {
+        0 => random.place(CONTENTS),
+        _ => random.place(bytes.len()),
+    };
+    bytes[place] ^= 1 << random.below(8);
+    bytes
+}
+
+/// A book about as long as the longest: filled up by rows, words or bits that
+/// change nothing in its lowering, to a length that is chosen.
+fn sized(random: &mut Random) -> Vec<u8> {
+    let rows = random.pick(&[4, 16, 40]);
+    let mut lists = match random.below(3) {
+        0 => CHECK.generate(random, rows),
+        _ => check::undamaged(random, rows),
+    };
+    let near = LONGEST - 9 + random.place(20);
+    let length = random.pick(&[LONGEST - 1, LONGEST, LONGEST, LONGEST + 1, near, 131_072]);
+    let left = |lists: &Lists| length.saturating_sub(draft(lists).bytes().len());
+    let room = left(&lists) / 8;
+    match random.below(5) {
+        0 => (0..room / 4).for_each(|_| lists[at::TARGET].extend([VAR, 8, 0, 0])),
+        1 => {
+            (0..room / 6).for_each(|_| lists[at::SOURCE].extend([VAR, 8, 0, 0, 0]));
+            lists[at::MAP].extend(vec![MAX; room / 6]);
+        }
+        2 => lists[at::SIDE].extend(vec![0; room]),
+        3 => lists[at::ARGUMENTS].extend(vec![0; room]),
+        _ => {}
+    }
+    let bits = random.pick(&[at::SOURCE_BITS, at::TARGET_BITS]);
+    let more = left(&lists);
+    lists[bits].extend((0..more).map(|k| k as u64 % 2));
+    draft(&lists).bytes()
+}

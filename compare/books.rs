@@ -1,0 +1,211 @@
+//! The program `verdict` against the scope and the Rust: books go in at its
+//! standard input, whole or in pieces, and the line that it prints must be the
+//! expected one.
+
+use std::collections::BTreeMap;
+use std::io::{ErrorKind, Read, Result, Write};
+use std::process::{Child, Command, Stdio};
+use std::thread;
+use std::time::Duration;
+
+use crate::book::{self, Fault, Shape, LONGEST, SECTIONS};
+use crate::bookdamage;
+use crate::check::CHECK;
+use crate::operation::Operation;
+use crate::ours::Answer;
+use crate::random::Random;
+use crate::rules::ACCEPTED;
+
+/// How many of a hundred random books go in piece by piece.
+const IN_PIECES: u64 = 10;
+
+/// So many pauses at most, so that the program reads before all is written.
+const PAUSES: usize = 16;
+
+struct Run<'a> {
+    program: &'a str,
+    /// By what the expected line says.
+    came: BTreeMap<String, u64>,
+    whole: u64,
+    pieces: u64,
+}
+
+/// Gives the program the known cases with their changes and so many random
+/// books; false at a disagreement or where an answer never came.
+pub fn books(seed: u64, cases: u64, program: &str) -> bool {
+    println!("seed {seed}, {program}, all known cases and {cases} random books");
+    let mut run = Run {
+        program,
+        came: BTreeMap::new(),
+        whole: 0,
+        pieces: 0,
+    };
+    let known = (CHECK.known().into_iter().map(|(lists, _)| lists)).chain(CHECK.changed());
+    let good = run.judge(&[], None, "no input")
+        && known.enumerate().all(|(k, lists)| {
+            run.judge(
+                &book::draft(&lists).bytes(),
+                None,
+                &format!("known case {k}"),
+            )
+        })
+        && (0..cases).all(|case| {
+            let mut random = Random::of_case(seed, case);
+            let input = bookdamage::generate(&mut random);
+            let pieces = random.below(100) < IN_PIECES;
+            let which = format!("random case {case} of seed {seed}");
+            run.judge(&input, pieces.then_some(&mut random), &which)
+        });
+    good && run.complete()
+}
+
+impl Run<'_> {
+    /// Runs the program on an input, in pieces where a generator of their sizes
+    /// is given; false, with a report, when it does not print the expected line.
+    fn judge(&mut self, input: &[u8], pieces: Option<&mut Random>, which: &str) -> bool {
+        let expected = book::verdict(input);
+        let labels = [Some(label(input, expected)), edge(input, expected)];
+        for label in labels.into_iter().flatten() {
+            *self.came.entry(label).or_default() += 1;
+        }
+        match pieces {
+            None => self.whole += 1,
+            Some(_) => self.pieces += 1,
+        }
+        let printed = match ask(self.program, input, pieces) {
+            Ok(printed) => printed,
+            Err(error) => format!("nothing: {error}\n"),
+        };
+        if printed == book::line(expected) {
+            return true;
+        }
+        println!(
+            "DISAGREEMENT in {which}, an input of {} bytes:",
+            input.len()
+        );
+        let bytes: Vec<String> = input.iter().map(|byte| format!("{byte:02x}")).collect();
+        println!("{}", bytes.join(" "));
+        print!("printed:  {printed}expected: {}", book::line(expected));
+        false
+    }
+
+    /// Prints what came; false if an answer never did.
+    fn complete(&self) -> bool {
+        for (label, count) in &self.came {
+            println!("  {label}: {count:8}");
+        }
+        let total = self.whole + self.pieces;
+        println!(
+            "{total} books, {} of them in pieces, all as expected",
+            self.pieces
+        );
+        let missing: Vec<String> = due()
+            .into_iter()
+            .filter(|label| !self.came.contains_key(label))
+            .collect();
+        missing
+            .iter()
+            .for_each(|label| println!("{label} never came"));
+        missing.is_empty()
+    }
+}
+
+/// The answer's number, and for 20 its place with the reason.
+fn label(input: &[u8], expected: Answer) -> String {
+    match book::input_shape(input) {
+        Shape::Good => numbered(expected.number),
+        bad => shaped(bad),
+    }
+}
+
+/// For books of good shape that are as long as a book may be, or a byte longer.
+fn edge(input: &[u8], expected: Answer) -> Option<String> {
+    let good = book::shape(input) == Shape::Good;
+    match input.len() {
+        LONGEST if expected == ACCEPTED => Some(LAST_TAKEN.to_string()),
+        LONGEST_AND_ONE if good => Some(FIRST_REFUSED.to_string()),
+        _ => None,
+    }
+}
+
+const LONGEST_AND_ONE: usize = LONGEST + 1;
+const LAST_TAKEN: &str = "65,536 bytes, accepted";
+const FIRST_REFUSED: &str = "65,537 bytes, good but for that";
+
+fn numbered(number: u64) -> String {
+    format!("answer {number:2}")
+}
+
+fn shaped(shape: Shape) -> String {
+    let reason = match shape {
+        Shape::Section(_, Fault::Start) => ", start",
+        Shape::Section(_, Fault::Past) => ", past the end",
+        Shape::Section(_, Fault::Words) => ", no whole words",
+        _ => "",
+    };
+    format!("answer 20 at {:2}{reason}", shape.answer().place)
+}
+
+/// What must come. 18 cannot: the program's work lists are long enough.
+fn due() -> Vec<String> {
+    let mut due: Vec<String> = (0..=17).map(numbered).collect();
+    due.extend([Shape::Short, Shape::LeftOver, Shape::Long].map(shaped));
+    due.extend([LAST_TAKEN, FIRST_REFUSED].map(String::from));
+    for section in 0..SECTIONS {
+        let mut faults = vec![Fault::Start, Fault::Past];
+        if !book::is_bits(section) {
+            faults.push(Fault::Words);
+        }
+        let number = section as u64 + 1;
+        due.extend(
+            faults
+                .into_iter()
+                .map(|fault| shaped(Shape::Section(number, fault))),
+        );
+    }
+    due
+}
+
+/// What the program prints about an input.
+pub fn ask(program: &str, input: &[u8], pieces: Option<&mut Random>) -> Result<String> {
+    let mut child = Command::new(program)
+        .stdin(Stdio::piped())
+        .stdout(Stdio::piped())
+        .spawn()?;
+    let given = give(&mut child, input, pieces);
+    let mut printed = String::new();
+    let mut output = child.stdout.take().expect("standard output is a pipe");
+    output.read_to_string(&mut printed)?;
+    let status = child.wait()?;
+    if !status.success() {
+        return Ok(format!("{printed}and ended with {status}\n"));
+    }
+    match given {
+        // It may stop reading once it knows that an input is too long.
+        Err(error) if error.kind() == ErrorKind::BrokenPipe && input.len() > LONGEST => Ok(printed),
+        Err(error) => Err(error),
+        Ok(()) => Ok(printed),
+    }
+}
+
+/// Writes the input to the program and closes the pipe.
+fn give(child: &mut Child, input: &[u8], pieces: Option<&mut Random>) -> Result<()> {
+    let mut pipe = child.stdin.take().expect("standard input is a pipe");
+    let Some(random) = pieces else {
+        return pipe.write_all(input);
+    };
+    let most = random.pick(&[1, 2, 9, 64, 200, 5_000]);
+    let mut left = input;
+    let mut pauses = 0;
+    while !left.is_empty() {
+        let (piece, rest) = left.split_at(left.len().min(1 + random.place(most)));
+        pipe.write_all(piece)?;
+        pipe.flush()?;
+        left = rest;
+        if pauses < PAUSES && random.once_in(3) {
+            pauses += 1;
+            thread::sleep(Duration::from_micros(100));
+        }
+    }
+    Ok(())
+}
