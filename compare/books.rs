@@ -1,6 +1,7 @@
 //! The program `verdict` against the scope and the Rust: books go in at its
 //! standard input, whole or in pieces, and the line that it prints must be the
-//! expected one.
+//! expected one. The library's sections and verdicts are held to the scope on
+//! the same books.
 
 use std::collections::BTreeMap;
 use std::io::{ErrorKind, Read, Result, Write};
@@ -11,6 +12,7 @@ use std::time::Duration;
 use crate::book::{self, Fault, Shape, LONGEST, SECTIONS};
 use crate::bookdamage;
 use crate::check::CHECK;
+use crate::judged;
 use crate::operation::Operation;
 use crate::ours::Answer;
 use crate::random::Random;
@@ -72,6 +74,12 @@ impl Run<'_> {
             None => self.whole += 1,
             Some(_) => self.pieces += 1,
         }
+        let mut lengths = Random::of_case(input.len() as u64, self.whole + self.pieces);
+        if let Some(what) = judged::differs(input, &mut lengths) {
+            println!("DISAGREEMENT in {which}: {what}");
+            show(input);
+            return false;
+        }
         let printed = match ask(self.program, input, pieces) {
             Ok(printed) => printed,
             Err(error) => format!("nothing: {error}\n"),
@@ -83,8 +91,7 @@ impl Run<'_> {
             "DISAGREEMENT in {which}, an input of {} bytes:",
             input.len()
         );
-        let bytes: Vec<String> = input.iter().map(|byte| format!("{byte:02x}")).collect();
-        println!("{}", bytes.join(" "));
+        show(input);
         print!("printed:  {printed}expected: {}", book::line(expected));
         false
     }
@@ -108,6 +115,12 @@ impl Run<'_> {
             .for_each(|label| println!("{label} never came"));
         missing.is_empty()
     }
+}
+
+/// Prints an input's bytes.
+fn show(input: &[u8]) {
+    let bytes: Vec<String> = input.iter().map(|byte| format!("{byte:02x}")).collect();
+    println!("{}", bytes.join(" "));
 }
 
 /// The answer's number, and for 20 its place with the reason.

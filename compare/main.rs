@@ -22,6 +22,7 @@ mod features;
 mod finish;
 mod graphs;
 mod grid;
+mod judged;
 mod large;
 mod list;
 mod listed;

@@ -13,6 +13,13 @@ pub struct Answer {
     pub detail: u64,
 }
 
+/// Where a section stands in its book.
+#[repr(C)]
+struct Stretch {
+    start: u64,
+    length: u64,
+}
+
 extern "C" {
     fn gilfrunt_source_widths(
         source: *const u64,
@@ -52,6 +59,25 @@ extern "C" {
         widths_len: usize,
         values: *mut u64,
         values_len: usize,
+    ) -> Answer;
+
+    fn gilfrunt_section_answer(book: *const u8, book_len: usize, number: u64) -> Answer;
+
+    fn gilfrunt_section(book: *const u8, book_len: usize, number: u64) -> Stretch;
+
+    fn gilfrunt_judge(
+        book: *const u8,
+        book_len: usize,
+        source_widths: *mut u64,
+        source_widths_len: usize,
+        target_widths: *mut u64,
+        target_widths_len: usize,
+        classes: *mut u64,
+        classes_len: usize,
+        entries: *mut u64,
+        entries_len: usize,
+        words: *mut u64,
+        words_len: usize,
     ) -> Answer;
 
     fn gilfrunt_check(
@@ -198,6 +224,43 @@ pub fn check(words: [&mut [u64]; 9], bits: [&mut [u8]; 2], lent: [&mut [u64]; 4]
             classes.len(),
             entries.as_mut_ptr(),
             entries.len(),
+        )
+    }
+}
+
+/// The answer about a section of a book, and its stretch of the book.
+pub fn section(book: &[u8], number: u64) -> (Answer, &[u8]) {
+    // As above.
+    let (answer, stretch) = unsafe {
+        (
+            gilfrunt_section_answer(book.as_ptr(), book.len(), number),
+            gilfrunt_section(book.as_ptr(), book.len(), number),
+        )
+    };
+    (
+        answer,
+        &book[stretch.start as usize..][..stretch.length as usize],
+    )
+}
+
+/// The verdict on a book, with its five lent lists.
+pub fn judge(book: &mut [u8], lent: [&mut [u64]; 5]) -> Answer {
+    let [source_widths, target_widths, classes, entries, words] = lent;
+    // As above.
+    unsafe {
+        gilfrunt_judge(
+            book.as_mut_ptr(),
+            book.len(),
+            source_widths.as_mut_ptr(),
+            source_widths.len(),
+            target_widths.as_mut_ptr(),
+            target_widths.len(),
+            classes.as_mut_ptr(),
+            classes.len(),
+            entries.as_mut_ptr(),
+            entries.len(),
+            words.as_mut_ptr(),
+            words.len(),
         )
     }
 }
