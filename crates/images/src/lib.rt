@@ -10,6 +10,7 @@ ghost use Rattle.rows.specs.Node.{nodeFrom, nodeOf};
 ghost use Rattle.lowering.specs.Images.{mapAt, mapNode, rowOf, rowIs, bothConst, sameConst, unequalConst};
 ghost use Rattle.lowering.specs.Matching.{isEq};
 ghost use Rattle.images.specs.Bits.{BitsWithin};
+ghost use Rattle.images.specs.Constants.{constantOf};
 use rows::Graph;
 
 // No row has this number.
@@ -70,6 +71,30 @@ pub fn row_is_eq(r: [u64; 5], a: u64, b: u64) -> bool
     rows::node_eq(r, [19, a, b, 0, 0])
 }
 
+// What a row says as a constant: whether it is one, and if so where its bits start and how many there are.
+pub struct Constant {
+    pub is: bool,
+    pub start: u64,
+    pub width: u64,
+}
+
+fn ext_const(r: [u64; 5]) -> Constant
+    ensures constant { λ c. ⌜ c ≡ constantOf r ⌝ }
+{
+    if r[0] != 1 {
+        return Constant {
+            is: false,
+            start: 0,
+            width: 0,
+        };
+    }
+    Constant {
+        is: true,
+        start: r[1],
+        width: r[2],
+    }
+}
+
 // The w bits of rbits from s on are those of qbits from t on.
 pub fn bits_eq(rbits: &[u8], s: usize, qbits: &[u8], t: usize, w: usize) -> bool
     requires { ⌜ (s + w ≤ length (now rbits)) × (t + w ≤ length (now qbits)) ⌝ }
@@ -88,10 +113,12 @@ pub fn bits_eq(rbits: &[u8], s: usize, qbits: &[u8], t: usize, w: usize) -> bool
 pub fn both_const(r: [u64; 5], q: [u64; 5]) -> bool
     ensures test { λ b. ⌜ b ≡ bothConst r q ⌝ }
 {
-    if r[0] != 1 {
+    let c = ext_const(r);
+    if !c.is {
         return false;
     }
-    q[0] == 1
+    let d = ext_const(q);
+    d.is
 }
 
 // Two constants are of one width and bits.
@@ -99,10 +126,18 @@ pub fn same_bits(rbits: &[u8], r: [u64; 5], qbits: &[u8], q: [u64; 5]) -> bool
     requires { ⌜ BitsWithin (now rbits) r × BitsWithin (now qbits) q × (bothConst r q ≡ true) ⌝ }
     ensures test { λ b. ⌜ b ≡ sameConst (now (rbits .entry)) r (now (qbits .entry)) q ⌝ }
 {
-    if r[2] != q[2] {
+    let c = ext_const(r);
+    let d = ext_const(q);
+    if c.width != d.width {
         return false;
     }
-    bits_eq(rbits, r[1] as usize, qbits, q[1] as usize, r[2] as usize)
+    bits_eq(
+        rbits,
+        c.start as usize,
+        qbits,
+        d.start as usize,
+        c.width as usize,
+    )
 }
 
 pub fn same_const(rbits: &[u8], r: [u64; 5], qbits: &[u8], q: [u64; 5]) -> bool

@@ -1,25 +1,21 @@
 -- `images::both_const` meets its contract. Assumes nothing.
+use borrow.Author.Tests.{not-true, not-false}
+use Rattle.images.proofs.Constants.{both-no, both-rest}
 use borrow.Author.Needs.{needs}
-use borrow.Author.Tests.{eq-eqb, ne-eqb}
-use Rattle.lists.specs.Tests.{all}
-use Rattle.lowering.specs.Images.{bothConst}
-use Rattle.lists.proofs.Choice.{last-test}
 use Rattle.images.proofs.both_const.Statement.{statement}
 use Rattle.images.proofs.both_const.Tie as tie
 
-array-read-if1 : tie.Need-array-read-if1
-array-read-if1 c = search needs
+ext-const-requires : tie.Need-ext-const-requires
+ext-const-requires c κs = search needs
 
 returns : tie.Need-returns
-unfolding bothConst all
-returns c = rw (ne-eqb _ _ (c .if1 .taken))
+returns c = both-no _ _ _ (c .before .before .ext-const .ensures) (not-true _ (c .if1 .taken))
 
-array-read-result : tie.Need-array-read-result
-array-read-result c = search needs
+ext-const-requires-2 : tie.Need-ext-const-requires-2
+ext-const-requires-2 c κs = search needs
 
 returns-2 : tie.Need-returns-2
-unfolding bothConst all
-returns-2 c = rw (eq-eqb _ _ (c .if1 .left)) (last-test _)
+returns-2 c = both-rest _ _ _ (c .before .before .before .ext-const .ensures) _ (c .ext-const2 .ensures) (not-false _ (c .before .if1 .left))
 
 pub both-const-spec : {M : Type 1} → statement M
-both-const-spec = tie.close (tie.spec array-read-if1 returns array-read-result returns-2)
+both-const-spec = tie.close (tie.spec ext-const-requires returns ext-const-requires-2 returns-2)
