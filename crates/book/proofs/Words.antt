@@ -1,5 +1,5 @@
 -- The words of a book: how many there are, and where each section's stand. Assumes nothing.
-use Prim.Native.Nat.{ℕ, zero, suc, _+_, _-_, _*_, _/_, _≤_, _<_, zero-le}
+use Prim.Native.Nat.{ℕ, zero, suc, _+_, _-_, _*_, _/_, _%_, _≤_, _<_, zero-le}
 use mathlib.Core.Path.{_≡_, refl, sym, ap, _∙_}
 use mathlib.Core.Bool.{Bool, true, false}
 use mathlib.Core.List.{List, [], _++_, append-assoc, append-nil}
@@ -27,6 +27,14 @@ module _ (b : List ℕ) (g : Good b) where
 
   pub words-count : (i : ℕ) → i < sections → isBits i ≡ false → length (listOf b i) ≡ lengthOf b i / 8
   words-count i h t = rw (t, words-length (body b i), body-length i h)
+
+  -- no byte of a section of words is left out
+  pub words-whole : (i : ℕ) → i < sections → isBits i ≡ false → 8 * length (listOf b i) ≡ length (body b i)
+  words-whole i h t =
+      let c : length (listOf b i) ≡ lengthOf b i / 8 = words-count i h t in
+      let l : length (body b i) ≡ lengthOf b i = body-length i h in
+      let w : lengthOf b i % 8 ≡ 0 = good-book b g .each i h .whole t in
+      omega arith
 
   list-bound : (i : ℕ) → i < sections → 8 * length (listOf b i) ≤ lengthOf b i
   list-bound i h = go (isBits i) refl
