@@ -13,7 +13,7 @@ use Rattle.wf.specs.Rule.{cellWidth}
 use Rattle.lowering.specs.Images.{MAX}
 use Rattle.lowering.specs.Check.{Lowering, Accepts, targetRows}
 use Rattle.lowering.specs.Transfer.{assignment, interpretation}
-use Rattle.lowering.specs.Sound.{ImagesAgree, SourceTrue, TargetTrue, SourceIsSatisfiable, TargetIsSatisfiable}
+use Rattle.lowering.specs.Sound.{Sound, ImagesAgree, SourceTrue, TargetTrue, SourceIsSatisfiable, TargetIsSatisfiable}
 use Rattle.lowering.proofs.Passed.{Passed}
 use Rattle.lowering.proofs.Facts.{Formed, Matched}
 use Rattle.lowering.proofs.Inversion.{passed}
@@ -86,3 +86,7 @@ module _ (L : Lowering) (ws0 ws1 cls ent : List ℕ) (slice : length (L .target)
   pub equisatisfiable : SourceIsSatisfiable L ↔ TargetIsSatisfiable L
   equisatisfiable =
       (λ (I, k, r). let (A, (f, t), _) = forward I (k, r) in (A, f, t), λ (A, f, t). let (I, (k, r), _) = backward A (f, t) in (I, k, r))
+
+  -- demand 3
+  pub sound : Sound L
+  sound = record { forward = forward; backward = backward; equisatisfiable = equisatisfiable }

@@ -1,6 +1,7 @@
 -- What acceptance is to mean (01, 'Meaning' and demand 3). Assumes nothing.
 use Prim.Native.Nat.{ℕ, _<_}
 use mathlib.Core.Path.{_≡_}
+use mathlib.Core.Logic.{_↔_}
 use Rattle.value.specs.Graph.{value, Assigns}
 use Rattle.meaning.specs.Meaning.{Interpretation, OfKind, RootsTrue, SourceSatisfiable, TargetSatisfiable, sourceValue}
 use Rattle.lowering.specs.Images.{MAX, mapAt}
@@ -29,3 +30,13 @@ module _ (L : Lowering) where
 
   abbrev pub TargetIsSatisfiable : Type 0
   TargetIsSatisfiable = TargetSatisfiable (L .target) (L .tbits) (L .troots)
+
+-- Demand 3, of one lowering: what a checker that accepts it says
+pub record Sound (L : Lowering) : Type 0 where
+  -- "each interpretation of S that makes S's roots true has an assignment of T that makes T's roots true", and "each mapped row has its image's value
+  -- and width"
+  pub forward : (I : Interpretation) → SourceTrue L I → (A : ℕ → ℕ) × TargetTrue L A × ImagesAgree L I A
+  -- "and the other way round"
+  pub backward : (A : ℕ → ℕ) → TargetTrue L A → (I : Interpretation) × SourceTrue L I × ImagesAgree L I A
+  -- "So S is satisfiable exactly when T is"
+  pub equisatisfiable : SourceIsSatisfiable L ↔ TargetIsSatisfiable L
