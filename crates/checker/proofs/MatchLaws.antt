@@ -20,8 +20,10 @@ use Rattle.lowering.specs.Matching.{classesTo, refusedRow, rowsAnswer, deadEntr
 use Rattle.lowering.specs.Check.{Lowering, sourceRows, targetRows, targetWidths, noClasses, classesOfReads, classesOfTables, classes, offsets, answerOf, mismatch, rowsRefusal, deadVariable, refuse, firstRefusal, tableAnswers, rootAnswers, matchAnswers}
 use Rattle.lowering.proofs.Inversion.{each-accepted, not-refused, all-pass, first-refused}
 use Rattle.lowering.proofs.Refusals.{refusal-append}
-use Rattle.congruence.specs.Walk.{ReadsIn, CallsIn}
-use Rattle.congruence.proofs.Inside.{reads-in, calls-in}
+use Rattle.pairs.specs.Walk.{ReadsIn}
+use Rattle.pairs.proofs.Inside.{reads-in}
+use Rattle.congruence.specs.Calls.{CallsIn}
+use Rattle.congruence.proofs.Inside.{calls-in}
 
 module _ (L : Lowering) where
   abbrev answer : Answer

@@ -12,9 +12,9 @@ use Rattle.answers.specs.declared.Answer.the-variants.{Accepted, RootMismatch, 
 use Rattle.lists.proofs.First.{first-le}
 use Rattle.lowering.specs.Roots.{Pair, pair, rootAt, readPairs, callPairs, readRoot, callRoot, badLead, badCong}
 use Rattle.lowering.specs.Check.{firstRefusal, rootAnswers}
-use Rattle.congruence.specs.declared.Cong.{Cong}
-use Rattle.congruence.specs.Walk.{walked}
-use Rattle.congruence.proofs.Inside.{walked-ok, walked-next}
+use Rattle.pairs.specs.declared.Cong.{Cong}
+use Rattle.pairs.specs.Walk.{walked}
+use Rattle.pairs.proofs.Inside.{walked-ok, walked-next}
 
 module _ (tr : List ℕ) (test : ℕ → Pair → Bool) (from : ℕ) (ps : List Pair) where
   -- the two parts of a walk's result

@@ -12,7 +12,8 @@ ghost use Rattle.wf.specs.Widths.{widths};
 ghost use Rattle.lowering.specs.Check.{lowering, classes, offsets, outcome, check, firstRefusal, countAnswers, graphAnswers, graphsAnswer, tableAnswers, rootAnswers, matchAnswers};
 ghost use Rattle.matching.specs.Ready.{Formed};
 ghost use Rattle.lowering.specs.Tables.{readCount, callCount, readClasses, callClasses, readOffsets, callOffsets};
-ghost use Rattle.congruence.specs.Walk.{ReadsIn, CallsIn};
+ghost use Rattle.pairs.specs.Walk.{ReadsIn};
+ghost use Rattle.congruence.specs.Calls.{CallsIn};
 ghost use Rattle.images.specs.Bits.{ConstsWithin};
 use answers::Answer;
 use rows::Graph;
@@ -136,11 +137,11 @@ fn roots(
     requires { ⌜ ConstsWithin Graph.Target (now tbits) (now target) ⌝ }
     ensures answer { λ r. ⌜ r ≡ firstRefusal (rootAnswers (now (eroots .entry)) (now (map .entry)) (now (reads .entry)) (now (calls .entry)) (now (cargs .entry)) (now (target .entry)) (now (tbits .entry)) (now (troots .entry))) ⌝ }
 {
-    let lead = congruence::ext_roots_corr(eroots, map, troots);
+    let lead = pairs::ext_roots_corr(eroots, map, troots);
     if lead < eroots.len() {
         return Answer::RootMismatch(lead as u64);
     }
-    let a = congruence::array_cong(reads, target, tbits, troots, eroots.len());
+    let a = pairs::array_cong(reads, target, tbits, troots, eroots.len());
     if !a.ok {
         return Answer::CongruenceMismatch(a.next as u64);
     }

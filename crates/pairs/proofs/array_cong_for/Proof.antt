@@ -1,4 +1,4 @@
--- `congruence::array_cong_for` meets its contract: what is left of the pairs gives the whole answer. Assumes nothing.
+-- `pairs::array_cong_for` meets its contract: what is left of the pairs gives the whole answer. Assumes nothing.
 use Prim.Native.Nat.{_+_, _*_, _≤_, _<_, _-_}
 use mathlib.Core.Path.{_≡_, refl, _∙_, sym}
 use mathlib.Core.Logic.{⊎-elim}
@@ -10,10 +10,10 @@ use Rattle.rows.specs.declared.Graph.the-variants.{Target}
 use Rattle.rows.specs.Row.{rowCount}
 use Rattle.lowering.specs.Tables.{readCount, readIndex}
 use Rattle.lowering.specs.Roots.{pair, pairsWith, readsNeed, readRoot, rootAt}
-use Rattle.congruence.specs.Walk.{walked}
-use Rattle.congruence.proofs.Walk.{row-end, row-skip, row-on, row-stop, root-inside}
-use Rattle.congruence.proofs.array_cong_for.Statement.{statement}
-use Rattle.congruence.proofs.array_cong_for.Tie as tie
+use Rattle.pairs.specs.Walk.{walked}
+use Rattle.pairs.proofs.Walk.{row-end, row-skip, row-on, row-stop, root-inside}
+use Rattle.pairs.proofs.array_cong_for.Statement.{statement}
+use Rattle.pairs.proofs.array_cong_for.Tie as tie
 
 abbrev Inv-loop : tie.InvT-loop
 Inv-loop reads target tbits troots k idx0 n at vp aid xp rp idx₀ l₀ idx l =

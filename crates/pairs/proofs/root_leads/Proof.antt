@@ -1,12 +1,12 @@
--- `congruence::root_leads` meets its contract. Assumes nothing.
+-- `pairs::root_leads` meets its contract. Assumes nothing.
 use mathlib.Core.Path.{_∙_, sym}
 use borrow.Author.Tests.{eq-eqb, ne-eqb, lt-ltb, le-ltb}
 use Rattle.lists.specs.Tests.{all}
 use Rattle.lowering.specs.Roots.{leads}
 use Rattle.lists.proofs.Choice.{last-test}
 use borrow.Author.Needs.{needs}
-use Rattle.congruence.proofs.root_leads.Statement.{statement}
-use Rattle.congruence.proofs.root_leads.Tie as tie
+use Rattle.pairs.proofs.root_leads.Statement.{statement}
+use Rattle.pairs.proofs.root_leads.Tie as tie
 
 mul-map-at : tie.Need-mul-map-at
 mul-map-at c = search needs

@@ -1,8 +1,8 @@
--- `congruence::const_pair_unequal` meets its contract. Assumes nothing.
+-- `pairs::const_pair_unequal` meets its contract. Assumes nothing.
 use mathlib.Core.Path.{_∙_}
 use borrow.Author.Needs.{needs}
-use Rattle.congruence.proofs.const_pair_unequal.Statement.{statement}
-use Rattle.congruence.proofs.const_pair_unequal.Tie as tie
+use Rattle.pairs.proofs.const_pair_unequal.Statement.{statement}
+use Rattle.pairs.proofs.const_pair_unequal.Tie as tie
 
 row-requires : tie.Need-row-requires
 row-requires c κs = search needs

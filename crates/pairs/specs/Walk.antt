@@ -1,4 +1,4 @@
--- A walk along the roots of some pairs, and what a table that has passed says of its entries. Assumes nothing.
+-- A walk along the roots of some pairs, and what a read table that has passed says of its entries. Assumes nothing.
 use Prim.Native.Nat.{ℕ, _+_, _*_, _<_, _≤_}
 use mathlib.Core.Bool.{Bool}
 use mathlib.Core.List.{List}
@@ -6,9 +6,9 @@ use lib.Dec.{eqb}
 use lib.ListN.{length}
 use Rattle.rows.specs.declared.Graph.the-variants.{Target}
 use Rattle.rows.specs.Row.{rowCount}
-use Rattle.lowering.specs.Tables.{readCount, readIndex, callCount, callStart, argCount}
+use Rattle.lowering.specs.Tables.{readCount, readIndex}
 use Rattle.lowering.specs.Roots.{Pair, badCong}
-use Rattle.congruence.specs.declared.Cong.{Cong}
+use Rattle.pairs.specs.declared.Cong.{Cong}
 
 abbrev pub cong : Bool → ℕ → Cong
 cong ok next = record { ok = ok; next = next }
@@ -20,7 +20,3 @@ walked troots test from ps = cong (eqb (badCong troots test from ps) (length ps)
 -- every entry is whole and its index is a row of the target
 abbrev pub ReadsIn : List ℕ → List ℕ → Type 0
 ReadsIn reads target = (k : ℕ) → k < readCount reads → (k * 3 + 3 ≤ length reads) × (readIndex reads k < rowCount Target target)
-
--- every entry is whole and its arguments lie in their list
-abbrev pub CallsIn : List ℕ → List ℕ → Type 0
-CallsIn calls cargs = (k : ℕ) → k < callCount calls → (k * 4 + 4 ≤ length calls) × (callStart calls k + argCount calls k ≤ length cargs)

@@ -12,8 +12,8 @@ use lib.ListN.{length, getD}
 use Rattle.lists.specs.First.{first}
 use Rattle.lists.proofs.Tests.{all-true}
 use Rattle.lowering.specs.Roots.{Pair, pair, pairsWith, pairs, rootAt}
-use Rattle.congruence.specs.declared.Cong.{Cong}
-use Rattle.congruence.specs.Walk.{cong, walked}
+use Rattle.pairs.specs.declared.Cong.{Cong}
+use Rattle.pairs.specs.Walk.{cong, walked}
 
 module _ (troots : List ℕ) (test : ℕ → Pair → Bool) where
   -- no pair is left

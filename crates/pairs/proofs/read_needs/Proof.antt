@@ -1,10 +1,10 @@
--- `congruence::read_needs` meets its contract. Assumes nothing.
+-- `pairs::read_needs` meets its contract. Assumes nothing.
 use borrow.Author.Tests.{eq-eqb, ne-eqb}
 use Rattle.lists.specs.Tests.{all}
 use Rattle.lists.proofs.Choice.{last-test}
 use borrow.Author.Needs.{needs}
-use Rattle.congruence.proofs.read_needs.Statement.{statement}
-use Rattle.congruence.proofs.read_needs.Tie as tie
+use Rattle.pairs.proofs.read_needs.Statement.{statement}
+use Rattle.pairs.proofs.read_needs.Tie as tie
 
 mul-at : tie.Need-mul-at
 mul-at c = search needs

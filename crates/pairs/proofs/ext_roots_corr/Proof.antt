@@ -1,4 +1,4 @@
--- `congruence::ext_roots_corr` meets its contract: the loop is the search `first`. Assumes nothing.
+-- `pairs::ext_roots_corr` meets its contract: the loop is the search `first`. Assumes nothing.
 use Prim.Native.Nat.{ℕ, _≤_, _<_, _-_}
 use mathlib.Core.Path.{_≡_, sym}
 use mathlib.Core.Bool.{false, not}
@@ -9,8 +9,8 @@ use borrow.Author.Needs.{needs}
 use lib.ListN.{length}
 use Rattle.lists.proofs.First.{first-at, first-past}
 use Rattle.lowering.specs.Roots.{leads}
-use Rattle.congruence.proofs.ext_roots_corr.Statement.{statement}
-use Rattle.congruence.proofs.ext_roots_corr.Tie as tie
+use Rattle.pairs.proofs.ext_roots_corr.Statement.{statement}
+use Rattle.pairs.proofs.ext_roots_corr.Tie as tie
 
 abbrev Inv-loop : tie.InvT-loop
 Inv-loop eroots map troots k₀ k = (k ≤ length eroots) × ((j : ℕ) → j < k → not (leads map eroots troots j) ≡ false)

@@ -1,4 +1,4 @@
--- `congruence::read_stands` meets its contract. Assumes nothing.
+-- `pairs::read_stands` meets its contract. Assumes nothing.
 use mathlib.Core.Path.{_∙_, sym}
 use native.Mathlib.Omega.{arith}
 use Prim.Native.Nat.{_≤_}
@@ -9,10 +9,10 @@ use borrow.Author.Tests.{lt-ltb, le-ltb}
 use Rattle.lists.specs.Tests.{all}
 use Rattle.lowering.specs.Roots.{allEqual}
 use Rattle.lists.proofs.Choice.{last-test}
-use Rattle.congruence.proofs.Shape.{by-antecedent}
+use Rattle.pairs.proofs.Shape.{by-antecedent}
 use borrow.Author.Needs.{needs}
-use Rattle.congruence.proofs.read_stands.Statement.{statement}
-use Rattle.congruence.proofs.read_stands.Tie as tie
+use Rattle.pairs.proofs.read_stands.Statement.{statement}
+use Rattle.pairs.proofs.read_stands.Tie as tie
 
 returns : tie.Need-returns
 unfolding all

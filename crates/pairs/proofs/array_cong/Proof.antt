@@ -1,4 +1,4 @@
--- `congruence::array_cong` meets its contract: what is left of the pairs gives the whole answer. Assumes nothing.
+-- `pairs::array_cong` meets its contract: what is left of the pairs gives the whole answer. Assumes nothing.
 use Prim.Native.Nat.{_≤_, _-_}
 use mathlib.Core.Path.{_≡_, _∙_, sym}
 use native.Mathlib.Nat.{sub-zero}
@@ -7,10 +7,10 @@ use borrow.Author.Needs.{needs}
 use borrow.Author.Tests.{not-true, not-false}
 use Rattle.lowering.specs.Tables.{readCount}
 use Rattle.lowering.specs.Roots.{pairs, readsNeed, readRoot}
-use Rattle.congruence.specs.Walk.{walked}
-use Rattle.congruence.proofs.Walk.{table-end, table-on, table-stop}
-use Rattle.congruence.proofs.array_cong.Statement.{statement}
-use Rattle.congruence.proofs.array_cong.Tie as tie
+use Rattle.pairs.specs.Walk.{walked}
+use Rattle.pairs.proofs.Walk.{table-end, table-on, table-stop}
+use Rattle.pairs.proofs.array_cong.Statement.{statement}
+use Rattle.pairs.proofs.array_cong.Tie as tie
 
 abbrev Inv-loop : tie.InvT-loop
 Inv-loop reads target tbits troots idx0 n idx₀ k₀ idx k =

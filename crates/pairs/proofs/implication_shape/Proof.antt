@@ -1,11 +1,11 @@
--- `congruence::implication_shape` meets its contract: each test in its turn. Assumes nothing.
+-- `pairs::implication_shape` meets its contract: each test in its turn. Assumes nothing.
 use mathlib.Core.Path.{_∙_, sym}
 use borrow.Author.Needs.{needs}
 use borrow.Author.Tests.{lt-ltb, le-ltb, eq-eqb, ne-eqb, not-true, not-false}
 use Rattle.lists.specs.Tests.{all}
-use Rattle.congruence.specs.Shape.{implies}
-use Rattle.congruence.proofs.implication_shape.Statement.{statement}
-use Rattle.congruence.proofs.implication_shape.Tie as tie
+use Rattle.pairs.specs.Shape.{implies}
+use Rattle.pairs.proofs.implication_shape.Statement.{statement}
+use Rattle.pairs.proofs.implication_shape.Tie as tie
 
 row-count-requires : tie.Need-row-count-requires
 row-count-requires c κs = search needs
