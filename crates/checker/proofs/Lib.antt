@@ -1,7 +1,3 @@
-pub mod Counts
-pub mod Form
-pub mod RootLaws
-pub mod TableLaws
 pub mod MatchLaws
 pub mod Zeros
 pub mod Keeps

@@ -1,13 +1,13 @@
--- `checker::entries` meets its contract. Assumes nothing.
+-- `stages::entries` meets its contract. Assumes nothing.
 use Prim.Native.Nat.{_≤_}
 use mathlib.Core.Path.{sym, ap, _∙_}
 use Rattle.answers.specs.declared.Answer.the-variants.{ReadTable, CallTable}
 use Rattle.lists.proofs.Choice.{no-way}
 use Rattle.lowering.specs.Tables.{readCount, badRead}
-use Rattle.checker.proofs.TableLaws.{all-reads, all-calls, read-5, call-6, tables-good}
+use Rattle.stages.proofs.TableLaws.{all-reads, all-calls, read-5, call-6, tables-good}
 use borrow.Author.Needs.{needs}
-use Rattle.checker.proofs.entries.Statement.{statement}
-use Rattle.checker.proofs.entries.Tie as tie
+use Rattle.stages.proofs.entries.Statement.{statement}
+use Rattle.stages.proofs.entries.Tie as tie
 
 read-entries-requires : tie.Need-read-entries-requires
 read-entries-requires c κs = search needs

@@ -1,13 +1,13 @@
--- `checker::roots` meets its contract. Assumes nothing.
+-- `stages::roots` meets its contract. Assumes nothing.
 use Prim.Native.Nat.{ℕ, _+_}
 use mathlib.Core.Path.{_≡_, sym, ap, _∙_}
 use borrow.Author.Tests.{eqb-true, not-true, not-false}
 use lib.ListN.{length}
 use Rattle.lowering.specs.Roots.{readPairs, callPairs, readRoot, callRoot}
-use Rattle.checker.proofs.RootLaws.{result-ok, result-next, lead-12, read-13, call-13, surplus-12, roots-good}
+use Rattle.stages.proofs.RootLaws.{result-ok, result-next, lead-12, read-13, call-13, surplus-12, roots-good}
 use borrow.Author.Needs.{needs}
-use Rattle.checker.proofs.roots.Statement.{statement}
-use Rattle.checker.proofs.roots.Tie as tie
+use Rattle.stages.proofs.roots.Statement.{statement}
+use Rattle.stages.proofs.roots.Tie as tie
 
 ext-roots-corr-requires : tie.Need-ext-roots-corr-requires
 ext-roots-corr-requires c κs = search needs

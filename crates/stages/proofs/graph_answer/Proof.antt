@@ -1,11 +1,11 @@
--- `checker::graph_answer` meets its contract. Assumes nothing.
+-- `stages::graph_answer` meets its contract. Assumes nothing.
 use mathlib.Core.Path.{sym}
 use native.Mathlib.Omega.{arith}
 use Rattle.rows.specs.declared.Graph.the-variants.{Source, Target}
-use Rattle.checker.proofs.Form.{bad-row-le, bad-source, bad-target, bit-source, bit-target, ill-source, ill-target, graphs-good}
+use Rattle.stages.proofs.Form.{bad-row-le, bad-source, bad-target, bit-source, bit-target, ill-source, ill-target, graphs-good}
 use borrow.Author.Needs.{needs}
-use Rattle.checker.proofs.graph_answer.Statement.{statement}
-use Rattle.checker.proofs.graph_answer.Tie as tie
+use Rattle.stages.proofs.graph_answer.Statement.{statement}
+use Rattle.stages.proofs.graph_answer.Tie as tie
 
 bad-row-requires : tie.Need-bad-row-requires
 bad-row-requires c κs = search needs

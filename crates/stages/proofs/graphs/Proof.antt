@@ -1,4 +1,4 @@
--- `checker::graphs` meets its contract. Assumes nothing.
+-- `stages::graphs` meets its contract. Assumes nothing.
 use Prim.Native.Nat.{ℕ, _<_}
 use mathlib.Core.Path.{_≡_, _∙_}
 use mathlib.Core.Bool.{true}
@@ -11,10 +11,10 @@ use Rattle.rows.specs.Row.{rowCount}
 use Rattle.wf.proofs.Stop.{stop-good}
 use Rattle.wf.specs.Widths.{stopRow}
 use Rattle.lowering.specs.Check.{firstRefusal, graphAnswers}
-use Rattle.checker.proofs.Form.{stop-le, graphs-stop, source-settles, no-stop-source, no-stop-target, widths-all}
+use Rattle.stages.proofs.Form.{stop-le, graphs-stop, source-settles, no-stop-source, no-stop-target, widths-all}
 use borrow.Author.Needs.{needs}
-use Rattle.checker.proofs.graphs.Statement.{statement}
-use Rattle.checker.proofs.graphs.Tie as tie
+use Rattle.stages.proofs.graphs.Statement.{statement}
+use Rattle.stages.proofs.graphs.Tie as tie
 
 graph-wf-requires : tie.Need-graph-wf-requires
 graph-wf-requires c κs = search needs

@@ -1,7 +1,7 @@
--- `checker::clear_all` meets its contract. Assumes nothing.
+-- `stages::clear_all` meets its contract. Assumes nothing.
 use borrow.Author.Needs.{needs}
-use Rattle.checker.proofs.clear_all.Statement.{statement}
-use Rattle.checker.proofs.clear_all.Tie as tie
+use Rattle.stages.proofs.clear_all.Statement.{statement}
+use Rattle.stages.proofs.clear_all.Tie as tie
 
 clear-requires : tie.Need-clear-requires
 clear-requires c κs = search needs
