@@ -26,7 +26,8 @@ fn call_class(c: u64) -> bool
 fn args_match(eside: &[u64], map: &[u64], cargs: &[u64], s: usize, cs: usize, k: usize) -> bool
     requires { ⌜ ArgsWithin (now eside) s k ⌝ }
     requires { ⌜ cs + k ≤ length (now cargs) ⌝ }
-    ensures test { λ r. ⌜ r ≡ agree (λ l. mapAt (now (map .entry)) (getD (now (eside .entry)) (s + l) 0)) (λ l. getD (now (cargs .entry)) (cs + l) 0) k ⌝ }
+    ensures test { λ r. ⌜ r ≡ agree (λ l. mapAt (now (map .entry)) (getD (now (eside .entry)) (s + l) 0))
+        (λ l. getD (now (cargs .entry)) (cs + l) 0) k ⌝ }
 {
     let mut l = 0;
     while l < k {
@@ -50,9 +51,11 @@ fn call_ok(
     e: [u64; 5],
     r: usize,
 ) -> bool
-    requires { ⌜ (r < rowCount Graph.Target (now target)) × (length (now ent) ≡ rowCount Graph.Target (now target)) × (length (now cls) ≡ rowCount Graph.Target (now target)) ⌝ }
+    requires { ⌜ (r < rowCount Graph.Target (now target)) × (length (now ent) ≡ rowCount Graph.Target (now target))
+        × (length (now cls) ≡ rowCount Graph.Target (now target)) ⌝ }
     requires { ⌜ ArgsWithin (now eside) (getD e 3 0) (getD e 4 0) ⌝ }
-    ensures test { λ t. ⌜ t ≡ callMatches (now (eside .entry)) (now (map .entry)) (now (calls .entry)) (now (cargs .entry)) (now (target .entry)) (now (ent .entry)) (now (cls .entry)) (getD e 1 0) (getD e 2 0) (getD e 3 0) (getD e 4 0) r ⌝ }
+    ensures test { λ t. ⌜ t ≡ callMatches (now (eside .entry)) (now (map .entry)) (now (calls .entry)) (now (cargs .entry)) (now (target .entry))
+        (now (ent .entry)) (now (cls .entry)) (getD e 1 0) (getD e 2 0) (getD e 3 0) (getD e 4 0) r ⌝ }
 {
     if !images::row_is_var(rows::row(Graph::Target, target, r), e[2]) {
         return false;
@@ -91,9 +94,11 @@ pub fn call_corr(
     e: [u64; 5],
     r: usize,
 ) -> bool
-    requires { ⌜ (r < rowCount Graph.Target (now target)) × (length (now ent) ≡ rowCount Graph.Target (now target)) × (length (now cls) ≡ rowCount Graph.Target (now target)) ⌝ }
+    requires { ⌜ (r < rowCount Graph.Target (now target)) × (length (now ent) ≡ rowCount Graph.Target (now target))
+        × (length (now cls) ≡ rowCount Graph.Target (now target)) ⌝ }
     requires { ⌜ ArgsWithin (now eside) (getD e 3 0) (getD e 4 0) ⌝ }
-    ensures test { λ t. ⌜ t ≡ callMatches (now (eside .entry)) (now (map .entry)) (now (calls .entry)) (now (cargs .entry)) (now (target .entry)) (now (ent .entry)) (now (cls .entry)) (getD e 1 0) (getD e 2 0) (getD e 3 0) (getD e 4 0) r ⌝ }
+    ensures test { λ t. ⌜ t ≡ callMatches (now (eside .entry)) (now (map .entry)) (now (calls .entry)) (now (cargs .entry)) (now (target .entry))
+        (now (ent .entry)) (now (cls .entry)) (getD e 1 0) (getD e 2 0) (getD e 3 0) (getD e 4 0) r ⌝ }
     ensures list { λ t. ⌜ now (cls .exit) ≡ cond t (set (now (cls .entry)) r 5) (now (cls .entry)) ⌝ }
 {
     if !call_ok(eside, map, calls, cargs, target, ent, cls, e, r) {

@@ -58,7 +58,8 @@ fn pair_step(
 ) -> Walk
     requires { ⌜ (s + 1 < length (now eside)) × (getD (now eside) s 0 < rowCount Graph.Source (now source)) ⌝ }
     requires { ⌜ ConstsWithin Graph.Source (now ebits) (now source) × BitsWithin (now ebits) q ⌝ }
-    ensures step { λ w. ⌜ w ≡ pairStep (now (source .entry)) (now (ebits .entry)) (now (eside .entry)) (now (map .entry)) (now (target .entry)) q b s r ⌝ }
+    ensures step { λ w. ⌜ w ≡ pairStep (now (source .entry)) (now (ebits .entry)) (now (eside .entry)) (now (map .entry))
+        (now (target .entry)) q b s r ⌝ }
 {
     let p = eside[s];
     let v = eside[s + 1];
@@ -87,7 +88,8 @@ fn chain_walk(
     requires { ⌜ j < rowCount Graph.Source (now source) ⌝ }
     requires { ⌜ PairsWithin (now source) (now eside) s k ⌝ }
     requires { ⌜ ConstsWithin Graph.Source (now ebits) (now source) ⌝ }
-    ensures stop { λ w. ⌜ w ≡ walk (now (source .entry)) (now (ebits .entry)) (now (eside .entry)) (now (map .entry)) (now (target .entry)) j k s r ⌝ }
+    ensures stop { λ w. ⌜ w ≡ walk (now (source .entry)) (now (ebits .entry)) (now (eside .entry)) (now (map .entry))
+        (now (target .entry)) j k s r ⌝ }
 {
     if k == 0 {
         return Walk::RanOut(r);
@@ -123,7 +125,8 @@ fn base_read_ok(
     r: u64,
 ) -> bool
     requires { ⌜ (length (now ent) ≡ rowCount Graph.Target (now target)) × (length (now cls) ≡ rowCount Graph.Target (now target)) ⌝ }
-    ensures test { λ t. ⌜ t ≡ endGood (now (map .entry)) (now (reads .entry)) (now (target .entry)) (now (ent .entry)) (now (cls .entry)) a j (Walk.RanOut r) ⌝ }
+    ensures test { λ t. ⌜ t ≡ endGood (now (map .entry)) (now (reads .entry)) (now (target .entry)) (now (ent .entry)) (now (cls .entry)) a j
+        (Walk.RanOut r) ⌝ }
 {
     if rows::row_count(Graph::Target, target) as u64 <= r {
         return false;
@@ -155,7 +158,8 @@ fn base_read(
     r: u64,
 ) -> bool
     requires { ⌜ (length (now ent) ≡ rowCount Graph.Target (now target)) × (length (now cls) ≡ rowCount Graph.Target (now target)) ⌝ }
-    ensures test { λ t. ⌜ t ≡ endGood (now (map .entry)) (now (reads .entry)) (now (target .entry)) (now (ent .entry)) (now (cls .entry)) a j (Walk.RanOut r) ⌝ }
+    ensures test { λ t. ⌜ t ≡ endGood (now (map .entry)) (now (reads .entry)) (now (target .entry)) (now (ent .entry)) (now (cls .entry)) a j
+        (Walk.RanOut r) ⌝ }
     ensures list { λ t. ⌜ now (cls .exit) ≡ cond t (set (now (cls .entry)) r 4) (now (cls .entry)) ⌝ }
 {
     if !base_read_ok(map, reads, target, ent, cls, a, j, r) {
@@ -201,10 +205,15 @@ pub fn select_corr(
     e: [u64; 5],
     r: usize,
 ) -> bool
-    requires { ⌜ (getD e 2 0 < rowCount Graph.Source (now source)) × PairsWithin (now source) (now eside) (getD e 3 0) (getD e 4 0) × ConstsWithin Graph.Source (now ebits) (now source) ⌝ }
+    requires { ⌜ (getD e 2 0 < rowCount Graph.Source (now source)) × PairsWithin (now source) (now eside) (getD e 3 0) (getD e 4 0)
+        × ConstsWithin Graph.Source (now ebits) (now source) ⌝ }
     requires { ⌜ (length (now ent) ≡ rowCount Graph.Target (now target)) × (length (now cls) ≡ rowCount Graph.Target (now target)) ⌝ }
-    ensures test { λ t. ⌜ t ≡ endGood (now (map .entry)) (now (reads .entry)) (now (target .entry)) (now (ent .entry)) (now (cls .entry)) (getD e 1 0) (getD e 2 0) (walk (now (source .entry)) (now (ebits .entry)) (now (eside .entry)) (now (map .entry)) (now (target .entry)) (getD e 2 0) (getD e 4 0) (getD e 3 0) r) ⌝ }
-    ensures list { λ t. ⌜ now (cls .exit) ≡ cond t (endClasses (now (cls .entry)) (walk (now (source .entry)) (now (ebits .entry)) (now (eside .entry)) (now (map .entry)) (now (target .entry)) (getD e 2 0) (getD e 4 0) (getD e 3 0) r)) (now (cls .entry)) ⌝ }
+    ensures test { λ t. ⌜ t ≡ endGood (now (map .entry)) (now (reads .entry)) (now (target .entry)) (now (ent .entry)) (now (cls .entry)) (getD e 1 0)
+        (getD e 2 0) (walk (now (source .entry)) (now (ebits .entry)) (now (eside .entry)) (now (map .entry)) (now (target .entry)) (getD e 2 0)
+        (getD e 4 0) (getD e 3 0) r) ⌝ }
+    ensures list { λ t. ⌜ now (cls .exit) ≡ cond t (endClasses (now (cls .entry))
+        (walk (now (source .entry)) (now (ebits .entry)) (now (eside .entry)) (now (map .entry)) (now (target .entry)) (getD e 2 0) (getD e 4 0)
+        (getD e 3 0) r)) (now (cls .entry)) ⌝ }
 {
     let w = chain_walk(
         source,

@@ -34,9 +34,16 @@ fn matches(
     requires { ⌜ now ws ≡ widths Graph.Target (length (now tbits)) [] (now target) ⌝ }
     requires { ⌜ now cls ≡ replicate (rowCount Graph.Target (now target)) 0 ⌝ }
     requires { ⌜ now ent ≡ replicate (rowCount Graph.Target (now target)) 0 ⌝ }
-    ensures answer { λ r. ⌜ r ≡ firstRefusal (matchAnswers (lowering (now (source .entry)) (now (ebits .entry)) (now (eside .entry)) (now (eroots .entry)) (now (map .entry)) (now (reads .entry)) (now (calls .entry)) (now (cargs .entry)) (now (target .entry)) (now (tbits .entry)) (now (troots .entry)))) ⌝ }
-    ensures class_list { λ r. ⌜ (isAccepted r ≡ true → now (cls .exit) ≡ classes (lowering (now (source .entry)) (now (ebits .entry)) (now (eside .entry)) (now (eroots .entry)) (now (map .entry)) (now (reads .entry)) (now (calls .entry)) (now (cargs .entry)) (now (target .entry)) (now (tbits .entry)) (now (troots .entry))) (rowCount Graph.Source (now (source .entry)))) ⌝ }
-    ensures entry_list { λ r. ⌜ (isAccepted r ≡ true → now (ent .exit) ≡ offsets (lowering (now (source .entry)) (now (ebits .entry)) (now (eside .entry)) (now (eroots .entry)) (now (map .entry)) (now (reads .entry)) (now (calls .entry)) (now (cargs .entry)) (now (target .entry)) (now (tbits .entry)) (now (troots .entry)))) ⌝ }
+    ensures answer { λ r. ⌜ r ≡ firstRefusal (matchAnswers
+        (lowering (now (source .entry)) (now (ebits .entry)) (now (eside .entry)) (now (eroots .entry)) (now (map .entry)) (now (reads .entry))
+        (now (calls .entry)) (now (cargs .entry)) (now (target .entry)) (now (tbits .entry)) (now (troots .entry)))) ⌝ }
+    ensures class_list { λ r. ⌜ (isAccepted r ≡ true → now (cls .exit)
+        ≡ classes (lowering (now (source .entry)) (now (ebits .entry)) (now (eside .entry)) (now (eroots .entry)) (now (map .entry))
+        (now (reads .entry)) (now (calls .entry)) (now (cargs .entry)) (now (target .entry)) (now (tbits .entry)) (now (troots .entry)))
+        (rowCount Graph.Source (now (source .entry)))) ⌝ }
+    ensures entry_list { λ r. ⌜ (isAccepted r ≡ true → now (ent .exit)
+        ≡ offsets (lowering (now (source .entry)) (now (ebits .entry)) (now (eside .entry)) (now (eroots .entry)) (now (map .entry))
+        (now (reads .entry)) (now (calls .entry)) (now (cargs .entry)) (now (target .entry)) (now (tbits .entry)) (now (troots .entry)))) ⌝ }
 {
     let n = rows::row_count(Graph::Source, source);
     if map.len() != n {
@@ -90,9 +97,17 @@ fn lowered(
     requires { ⌜ now ws ≡ widths Graph.Target (length (now tbits)) [] (now target) ⌝ }
     requires { ⌜ rowCount Graph.Target (now target) ≤ length (now cls) ⌝ }
     requires { ⌜ rowCount Graph.Target (now target) ≤ length (now ent) ⌝ }
-    ensures answer { λ r. ⌜ r ≡ firstRefusal (matchAnswers (lowering (now (source .entry)) (now (ebits .entry)) (now (eside .entry)) (now (eroots .entry)) (now (map .entry)) (now (reads .entry)) (now (calls .entry)) (now (cargs .entry)) (now (target .entry)) (now (tbits .entry)) (now (troots .entry)))) ⌝ }
-    ensures class_list { λ r. ⌜ (isAccepted r ≡ true → now (cls .exit) ≡ classes (lowering (now (source .entry)) (now (ebits .entry)) (now (eside .entry)) (now (eroots .entry)) (now (map .entry)) (now (reads .entry)) (now (calls .entry)) (now (cargs .entry)) (now (target .entry)) (now (tbits .entry)) (now (troots .entry))) (rowCount Graph.Source (now (source .entry))) ++ replicate (length (now (cls .entry)) - rowCount Graph.Target (now (target .entry))) 0) ⌝ }
-    ensures entry_list { λ r. ⌜ (isAccepted r ≡ true → now (ent .exit) ≡ offsets (lowering (now (source .entry)) (now (ebits .entry)) (now (eside .entry)) (now (eroots .entry)) (now (map .entry)) (now (reads .entry)) (now (calls .entry)) (now (cargs .entry)) (now (target .entry)) (now (tbits .entry)) (now (troots .entry))) ++ replicate (length (now (ent .entry)) - rowCount Graph.Target (now (target .entry))) 0) ⌝ }
+    ensures answer { λ r. ⌜ r ≡ firstRefusal (matchAnswers
+        (lowering (now (source .entry)) (now (ebits .entry)) (now (eside .entry)) (now (eroots .entry)) (now (map .entry)) (now (reads .entry))
+        (now (calls .entry)) (now (cargs .entry)) (now (target .entry)) (now (tbits .entry)) (now (troots .entry)))) ⌝ }
+    ensures class_list { λ r. ⌜ (isAccepted r ≡ true → now (cls .exit)
+        ≡ classes (lowering (now (source .entry)) (now (ebits .entry)) (now (eside .entry)) (now (eroots .entry)) (now (map .entry))
+        (now (reads .entry)) (now (calls .entry)) (now (cargs .entry)) (now (target .entry)) (now (tbits .entry)) (now (troots .entry)))
+        (rowCount Graph.Source (now (source .entry))) ++ replicate (length (now (cls .entry)) - rowCount Graph.Target (now (target .entry))) 0) ⌝ }
+    ensures entry_list { λ r. ⌜ (isAccepted r ≡ true → now (ent .exit)
+        ≡ offsets (lowering (now (source .entry)) (now (ebits .entry)) (now (eside .entry)) (now (eroots .entry)) (now (map .entry))
+        (now (reads .entry)) (now (calls .entry)) (now (cargs .entry)) (now (target .entry)) (now (tbits .entry)) (now (troots .entry)))
+        ++ replicate (length (now (ent .entry)) - rowCount Graph.Target (now (target .entry))) 0) ⌝ }
 {
     lists::clear(cls);
     lists::clear(ent);
@@ -134,7 +149,10 @@ pub fn check(
     cls: &mut [u64],
     ent: &mut [u64],
 ) -> Answer
-    ensures outcome { λ r. ⌜ outcome r (now (ws0 .exit)) (now (ws1 .exit)) (now (cls .exit)) (now (ent .exit)) ≡ check (lowering (now (source .entry)) (now (ebits .entry)) (now (eside .entry)) (now (eroots .entry)) (now (map .entry)) (now (reads .entry)) (now (calls .entry)) (now (cargs .entry)) (now (target .entry)) (now (tbits .entry)) (now (troots .entry))) (now (ws0 .entry)) (now (ws1 .entry)) (now (cls .entry)) (now (ent .entry)) ⌝ }
+    ensures outcome { λ r. ⌜ outcome r (now (ws0 .exit)) (now (ws1 .exit)) (now (cls .exit)) (now (ent .exit))
+        ≡ check (lowering (now (source .entry)) (now (ebits .entry)) (now (eside .entry)) (now (eroots .entry)) (now (map .entry))
+        (now (reads .entry)) (now (calls .entry)) (now (cargs .entry)) (now (target .entry)) (now (tbits .entry)) (now (troots .entry)))
+        (now (ws0 .entry)) (now (ws1 .entry)) (now (cls .entry)) (now (ent .entry)) ⌝ }
 {
     let a = stages::count_answer(
         source.len(),

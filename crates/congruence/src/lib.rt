@@ -15,7 +15,8 @@ use rows::Graph;
 // Row a says that k arguments from sp on and from sq on are equal: BoolAnd nested to the left, the last equality outermost.
 fn ante_ok(target: &[u64], cargs: &[u64], sp: usize, sq: usize, k: usize, a: u64) -> bool
     requires { ⌜ (0 < k) × (sp + k ≤ length (now cargs)) × (sq + k ≤ length (now cargs)) ⌝ }
-    ensures test { λ r. ⌜ r ≡ allEqual (now (target .entry)) (λ l. getD (now (cargs .entry)) (sp + l) 0) (λ l. getD (now (cargs .entry)) (sq + l) 0) (k - 1) a ⌝ }
+    ensures test { λ r. ⌜ r ≡ allEqual (now (target .entry)) (λ l. getD (now (cargs .entry)) (sp + l) 0) (λ l. getD (now (cargs .entry)) (sq + l) 0)
+        (k - 1) a ⌝ }
 {
     let n = rows::row_count(Graph::Target, target) as u64;
     let mut cur = a;
@@ -62,7 +63,9 @@ fn call_stands(
     vq: u64,
 ) -> bool
     requires { ⌜ (sp + k ≤ length (now cargs)) × (sq + k ≤ length (now cargs)) ⌝ }
-    ensures test { λ r. ⌜ r ≡ all (ltb idx (length (now (troots .entry))) ∷ congruent (now (target .entry)) (λ i. getD (now (cargs .entry)) (sp + i) 0) (λ i. getD (now (cargs .entry)) (sq + i) 0) k vp vq (getD (now (troots .entry)) idx 0) ∷ []) ⌝ }
+    ensures test { λ r. ⌜ r ≡ all (ltb idx (length (now (troots .entry)))
+        ∷ congruent (now (target .entry)) (λ i. getD (now (cargs .entry)) (sp + i) 0) (λ i. getD (now (cargs .entry)) (sq + i) 0) k vp vq
+        (getD (now (troots .entry)) idx 0) ∷ []) ⌝ }
 {
     if troots.len() <= idx {
         return false;
@@ -85,7 +88,8 @@ fn uf_cong_for(
 ) -> Cong
     requires { ⌜ CallsIn (now calls) (now cargs) ⌝ }
     requires { ⌜ k < callCount (now calls) ⌝ }
-    ensures walk { λ r. ⌜ r ≡ walked (now (troots .entry)) (callRoot (now (calls .entry)) (now (cargs .entry)) (now (target .entry))) idx0 (pairsWith (sameFunction (now (calls .entry))) k (k + 1) (callCount (now (calls .entry)) - (k + 1))) ⌝ }
+    ensures walk { λ r. ⌜ r ≡ walked (now (troots .entry)) (callRoot (now (calls .entry)) (now (cargs .entry)) (now (target .entry))) idx0
+        (pairsWith (sameFunction (now (calls .entry))) k (k + 1) (callCount (now (calls .entry)) - (k + 1))) ⌝ }
 {
     let n = tables::call_count(calls);
     let at = k * 4;
@@ -118,7 +122,8 @@ fn uf_cong_for(
 // All pairs of calls of one function and argument count.
 pub fn uf_cong(calls: &[u64], cargs: &[u64], target: &[u64], troots: &[u64], idx0: usize) -> Cong
     requires { ⌜ CallsIn (now calls) (now cargs) ⌝ }
-    ensures walk { λ r. ⌜ r ≡ walked (now (troots .entry)) (callRoot (now (calls .entry)) (now (cargs .entry)) (now (target .entry))) idx0 (callPairs (now (calls .entry))) ⌝ }
+    ensures walk { λ r. ⌜ r ≡ walked (now (troots .entry)) (callRoot (now (calls .entry)) (now (cargs .entry)) (now (target .entry))) idx0
+        (callPairs (now (calls .entry))) ⌝ }
 {
     let n = tables::call_count(calls);
     let mut idx = idx0;

@@ -91,7 +91,8 @@ pub fn ext_roots_corr(eroots: &[u64], map: &[u64], troots: &[u64]) -> usize
 fn read_needs(reads: &[u64], target: &[u64], tbits: &[u8], aid: u64, rp: [u64; 5], l: usize) -> bool
     requires { ⌜ (l * 3 + 3 ≤ length (now reads)) × (readIndex (now reads) l < rowCount Graph.Target (now target)) ⌝ }
     requires { ⌜ BitsWithin (now tbits) rp × BitsWithin (now tbits) (rowAt Graph.Target (now target) (readIndex (now reads) l)) ⌝ }
-    ensures test { λ r. ⌜ r ≡ all (eqb aid (readArray (now (reads .entry)) l) ∷ not (unequalConst (now (tbits .entry)) rp (rowAt Graph.Target (now (target .entry)) (readIndex (now (reads .entry)) l))) ∷ []) ⌝ }
+    ensures test { λ r. ⌜ r ≡ all (eqb aid (readArray (now (reads .entry)) l)
+        ∷ not (unequalConst (now (tbits .entry)) rp (rowAt Graph.Target (now (target .entry)) (readIndex (now (reads .entry)) l))) ∷ []) ⌝ }
 {
     let at = l * 3;
     if aid != reads[at + 1] {
@@ -110,7 +111,8 @@ fn read_stands(
     vp: u64,
     vq: u64,
 ) -> bool
-    ensures test { λ r. ⌜ r ≡ all (ltb idx (length (now (troots .entry))) ∷ congruent (now (target .entry)) (λ _. xp) (λ _. xq) 1 vp vq (getD (now (troots .entry)) idx 0) ∷ []) ⌝ }
+    ensures test { λ r. ⌜ r ≡ all (ltb idx (length (now (troots .entry)))
+        ∷ congruent (now (target .entry)) (λ _. xp) (λ _. xq) 1 vp vq (getD (now (troots .entry)) idx 0) ∷ []) ⌝ }
 {
     if troots.len() <= idx {
         return false;
@@ -131,7 +133,9 @@ fn array_cong_for(
     requires { ⌜ ReadsIn (now reads) (now target) ⌝ }
     requires { ⌜ ConstsWithin Graph.Target (now tbits) (now target) ⌝ }
     requires { ⌜ k < readCount (now reads) ⌝ }
-    ensures walk { λ r. ⌜ r ≡ walked (now (troots .entry)) (readRoot (now (reads .entry)) (now (target .entry))) idx0 (pairsWith (readsNeed (now (reads .entry)) (now (target .entry)) (now (tbits .entry))) k (k + 1) (readCount (now (reads .entry)) - (k + 1))) ⌝ }
+    ensures walk { λ r. ⌜ r ≡ walked (now (troots .entry)) (readRoot (now (reads .entry)) (now (target .entry))) idx0
+        (pairsWith (readsNeed (now (reads .entry)) (now (target .entry)) (now (tbits .entry))) k (k + 1)
+        (readCount (now (reads .entry)) - (k + 1))) ⌝ }
 {
     let n = tables::read_count(reads);
     let at = k * 3;
@@ -164,7 +168,8 @@ fn array_cong_for(
 pub fn array_cong(reads: &[u64], target: &[u64], tbits: &[u8], troots: &[u64], idx0: usize) -> Cong
     requires { ⌜ ReadsIn (now reads) (now target) ⌝ }
     requires { ⌜ ConstsWithin Graph.Target (now tbits) (now target) ⌝ }
-    ensures walk { λ r. ⌜ r ≡ walked (now (troots .entry)) (readRoot (now (reads .entry)) (now (target .entry))) idx0 (readPairs (now (reads .entry)) (now (target .entry)) (now (tbits .entry))) ⌝ }
+    ensures walk { λ r. ⌜ r ≡ walked (now (troots .entry)) (readRoot (now (reads .entry)) (now (target .entry))) idx0
+        (readPairs (now (reads .entry)) (now (target .entry)) (now (tbits .entry))) ⌝ }
 {
     let n = tables::read_count(reads);
     let mut idx = idx0;

@@ -50,7 +50,7 @@ pub fn count_answer(
     Answer::Accepted
 }
 
-// 16, 17, 1 and 2, where each graph's rows before its row `stop` are good and well formed and that row, if there is one, is badly encoded or ill-formed.
+// 16, 17, 1 and 2, where each graph's rows before its row `stop` are good and well formed, and that row, if any, is badly encoded or ill-formed.
 fn graph_answer(
     source: &[u64],
     ebits: &[u8],
@@ -63,7 +63,8 @@ fn graph_answer(
     requires { ⌜ ((j : ℕ) → j < stop0 → rowBad Graph.Source (now source) j ≡ false) ⌝ }
     requires { ⌜ stop1 ≤ rowCount Graph.Target (now target) ⌝ }
     requires { ⌜ ((j : ℕ) → j < stop1 → rowBad Graph.Target (now target) j ≡ false) ⌝ }
-    ensures answer { λ r. ⌜ r ≡ firstRefusal (graphAnswers (now (source .entry)) (now (ebits .entry)) (now (target .entry)) (now (tbits .entry)) stop0 stop1) ⌝ }
+    ensures answer { λ r. ⌜ r ≡ firstRefusal (graphAnswers (now (source .entry)) (now (ebits .entry)) (now (target .entry))
+        (now (tbits .entry)) stop0 stop1) ⌝ }
 {
     let row0 = rows::bad_row(Graph::Source, source, stop0);
     if row0 < rows::row_count(Graph::Source, source) {
@@ -102,9 +103,13 @@ pub fn graphs(
 ) -> Answer
     requires { ⌜ rowCount Graph.Source (now source) ≤ length (now ws0) ⌝ }
     requires { ⌜ rowCount Graph.Target (now target) ≤ length (now ws1) ⌝ }
-    ensures answer { λ r. ⌜ r ≡ graphsAnswer (now (source .entry)) (now (ebits .entry)) (now (eside .entry)) (now (target .entry)) (now (tbits .entry)) ⌝ }
-    ensures source_list { λ r. ⌜ (isAccepted r ≡ true → now (ws0 .exit) ≡ widths Graph.Source (length (now (ebits .entry))) (now (eside .entry)) (now (source .entry)) ++ drop (rowCount Graph.Source (now (source .entry))) (now (ws0 .entry))) ⌝ }
-    ensures target_list { λ r. ⌜ (isAccepted r ≡ true → now (ws1 .exit) ≡ widths Graph.Target (length (now (tbits .entry))) [] (now (target .entry)) ++ drop (rowCount Graph.Target (now (target .entry))) (now (ws1 .entry))) ⌝ }
+    ensures answer { λ r. ⌜ r ≡ graphsAnswer (now (source .entry)) (now (ebits .entry)) (now (eside .entry)) (now (target .entry))
+        (now (tbits .entry)) ⌝ }
+    ensures source_list { λ r. ⌜ (isAccepted r ≡ true → now (ws0 .exit)
+        ≡ widths Graph.Source (length (now (ebits .entry))) (now (eside .entry)) (now (source .entry))
+        ++ drop (rowCount Graph.Source (now (source .entry))) (now (ws0 .entry))) ⌝ }
+    ensures target_list { λ r. ⌜ (isAccepted r ≡ true → now (ws1 .exit) ≡ widths Graph.Target (length (now (tbits .entry))) [] (now (target .entry))
+        ++ drop (rowCount Graph.Target (now (target .entry))) (now (ws1 .entry))) ⌝ }
 {
     let stop0 = wf::graph_wf(Graph::Source, source, ebits.len() as u64, eside, ws0);
     if stop0 < rows::row_count(Graph::Source, source) {
@@ -132,9 +137,14 @@ pub fn entries(
 ) -> Answer
     requires { ⌜ length (now cls) ≡ rowCount Graph.Target (now target) ⌝ }
     requires { ⌜ length (now ent) ≡ rowCount Graph.Target (now target) ⌝ }
-    ensures answer { λ r. ⌜ r ≡ firstRefusal (tableAnswers (now (reads .entry)) (now (calls .entry)) (now (cargs .entry)) (now (target .entry)) (now (ws .entry)) (now (cls .entry))) ⌝ }
-    ensures classes { λ r. ⌜ (isAccepted r ≡ true → now (cls .exit) ≡ callClasses (now (calls .entry)) (readClasses (now (reads .entry)) (now (cls .entry)) (readCount (now (reads .entry)))) (callCount (now (calls .entry)))) ⌝ }
-    ensures offsets { λ r. ⌜ (isAccepted r ≡ true → now (ent .exit) ≡ callOffsets (now (calls .entry)) (readOffsets (now (reads .entry)) (now (ent .entry)) (readCount (now (reads .entry)))) (callCount (now (calls .entry)))) ⌝ }
+    ensures answer { λ r. ⌜ r ≡ firstRefusal (tableAnswers (now (reads .entry)) (now (calls .entry)) (now (cargs .entry)) (now (target .entry))
+        (now (ws .entry)) (now (cls .entry))) ⌝ }
+    ensures classes { λ r. ⌜ (isAccepted r ≡ true → now (cls .exit)
+        ≡ callClasses (now (calls .entry)) (readClasses (now (reads .entry)) (now (cls .entry)) (readCount (now (reads .entry))))
+        (callCount (now (calls .entry)))) ⌝ }
+    ensures offsets { λ r. ⌜ (isAccepted r ≡ true → now (ent .exit)
+        ≡ callOffsets (now (calls .entry)) (readOffsets (now (reads .entry)) (now (ent .entry)) (readCount (now (reads .entry))))
+        (callCount (now (calls .entry)))) ⌝ }
 {
     let r = tables::read_entries(reads, target, ws, cls, ent);
     if r < tables::read_count(reads) as u64 {
@@ -161,7 +171,8 @@ pub fn roots(
     requires { ⌜ ReadsIn (now reads) (now target) ⌝ }
     requires { ⌜ CallsIn (now calls) (now cargs) ⌝ }
     requires { ⌜ ConstsWithin Graph.Target (now tbits) (now target) ⌝ }
-    ensures answer { λ r. ⌜ r ≡ firstRefusal (rootAnswers (now (eroots .entry)) (now (map .entry)) (now (reads .entry)) (now (calls .entry)) (now (cargs .entry)) (now (target .entry)) (now (tbits .entry)) (now (troots .entry))) ⌝ }
+    ensures answer { λ r. ⌜ r ≡ firstRefusal (rootAnswers (now (eroots .entry)) (now (map .entry)) (now (reads .entry)) (now (calls .entry))
+        (now (cargs .entry)) (now (target .entry)) (now (tbits .entry)) (now (troots .entry))) ⌝ }
 {
     let lead = pairs::ext_roots_corr(eroots, map, troots);
     if lead < eroots.len() {
