@@ -1,11 +1,11 @@
--- `checker::lowered` meets its contract. Assumes nothing.
+-- `lowered::lowered` meets its contract. Assumes nothing.
 use mathlib.Core.Path.{sym}
 use lib.ListN.{length-replicate}
 use lib.Seq.{length-take-le}
-use Rattle.checker.proofs.Zeros.{zeros-front, zeros-back}
+use Rattle.lowered.proofs.Zeros.{zeros-front, zeros-back}
 use borrow.Author.Needs.{needs}
-use Rattle.checker.proofs.lowered.Statement.{statement}
-use Rattle.checker.proofs.lowered.Tie as tie
+use Rattle.lowered.proofs.lowered.Statement.{statement}
+use Rattle.lowered.proofs.lowered.Tie as tie
 
 clear-requires : tie.Need-clear-requires
 clear-requires c κs = search needs

@@ -1,4 +1,4 @@
--- `checker::matches` meets its contract. Assumes nothing.
+-- `lowered::matches` meets its contract. Assumes nothing.
 use Prim.Native.Nat.{ℕ}
 use mathlib.Core.Path.{sym, ap, _∙_}
 use lib.ListN.{length, length-replicate}
@@ -8,11 +8,11 @@ use Rattle.images.proofs.Constants.{bits-within}
 use Rattle.lists.proofs.Choice.{no-way}
 use Rattle.rows.specs.declared.Graph.the-variants.{Target}
 use Rattle.lowering.specs.Check.{lowering}
-use Rattle.checker.proofs.MatchLaws.{map-3, tables-done, rows-done, dead-done, roots-done, passed-tables, reads-inside, calls-inside}
+use Rattle.lowered.proofs.MatchLaws.{map-3, tables-done, rows-done, dead-done, roots-done, passed-tables, reads-inside, calls-inside}
 use Rattle.wf.specs.Widths.{widths}
 use borrow.Author.Needs.{needs}
-use Rattle.checker.proofs.matches.Statement.{statement}
-use Rattle.checker.proofs.matches.Tie as tie
+use Rattle.lowered.proofs.matches.Statement.{statement}
+use Rattle.lowered.proofs.matches.Tie as tie
 
 row-count-requires : tie.Need-row-count-requires
 row-count-requires c κs = search needs
