@@ -1,4 +1,4 @@
--- What verdict accepts is equisatisfiable: the lists that the book holds, by the theorems of Check (lowering/proofs/Theorem). Assumes nothing.
+-- What verdict accepts is equisatisfiable: the lists that the book holds, by the theorems of Check (soundness/proofs/Theorem). Assumes nothing.
 use Prim.Native.Nat.{ℕ, _≤_}
 use mathlib.Core.Path.{_≡_, refl, sym}
 use mathlib.Core.Bool.{Bool, true, false, cond}
@@ -14,9 +14,9 @@ use Rattle.answers.specs.Answer.{isAccepted, andThen}
 use Rattle.lists.proofs.Choice.{no-way}
 use Rattle.meaning.specs.Meaning.{Interpretation}
 use Rattle.lowering.specs.Images.{MAX}
-use Rattle.lowering.specs.Check.{Lowering, sourceRows, targetRows, checkAnswer, Accepts}
-use Rattle.lowering.specs.Sound.{ImagesAgree, SourceTrue, TargetTrue, SourceIsSatisfiable, TargetIsSatisfiable}
-use Rattle.lowering.proofs.Theorem.{forward, backward, equisatisfiable}
+use Rattle.lowering.specs.Check.{Lowering, sourceRows, targetRows, checkAnswer}
+use Rattle.soundness.specs.Sound.{Accepts, ImagesAgree, SourceTrue, TargetTrue, SourceIsSatisfiable, TargetIsSatisfiable}
+use Rattle.soundness.proofs.Theorem.{forward, backward, equisatisfiable}
 use Rattle.book.specs.Book.{sections, bookAnswer}
 use Rattle.book.specs.Words.{listOf}
 use Rattle.book.proofs.Words.{loaded-below}
