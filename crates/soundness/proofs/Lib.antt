@@ -17,3 +17,4 @@ pub mod Backward
 pub mod Reach
 pub mod Accepted
 pub mod Theorem
+pub mod Guards
