@@ -108,6 +108,11 @@ cases-9 : answer (with-constants (bits64 0 1) []) ∷ answer (with-constants (bi
 unfolding firstRefusal build first all agree trace rowIs bothConst sameConst unequalConst sameRead sameFunction sameCall readGood callGood isEq isLevel walk endGood callMatches varMatches nodeMatches rowAnswer rowClasses leads pairsWith pairs readsNeed allEqual congruent rootAt
 cases-9 = refl
 
+-- one constant index and one variable need their root
+case-one-constant : answer (two-reads [] (λ m. s5 1 0 32 0 0 (s5 0 32 0 0 0 m)) (0 ∷ zeros31 []) (λ m. t4 1 0 32 0 (t4 0 32 0 0 m)) (0 ∷ zeros31 []) []) ≡ words 13 0 0
+unfolding firstRefusal build first all agree trace rowIs bothConst sameConst unequalConst sameRead sameFunction sameCall readGood callGood isEq isLevel walk endGood callMatches varMatches nodeMatches rowAnswer rowClasses leads pairsWith pairs readsNeed allEqual congruent rootAt
+case-one-constant = refl
+
 -- 10. "Source Var(32) twice, Var(8), Select(7,1,0,1), pair (0,2); target Var(32) twice, Var(8) twice, Eq(0,1), Ite(4,2,3); map [0,1,2,5];
 -- reads [3,7,1]; no roots: accepted. With Eq(1,0): 10 at 3"
 abbrev one-store : ℕ → ℕ → Lowering
@@ -123,6 +128,36 @@ cases-10 = refl
 case-11 : answer (lowering (s5 38 3 8 0 0 (s5 38 3 8 0 0 [])) [] [] [] (0 ∷ 0 ∷ []) [] (0 ∷ 3 ∷ 0 ∷ 0 ∷ []) [] (t4 0 8 0 0 []) [] []) ≡ accepted
 unfolding firstRefusal build first all agree trace rowIs bothConst sameConst unequalConst sameRead sameFunction sameCall readGood callGood isEq isLevel walk endGood callMatches varMatches nodeMatches rowAnswer rowClasses leads pairsWith pairs readsNeed allEqual congruent rootAt
 case-11 = refl
+
+-- the pairs first to last, so that the newest store stands outermost: source Var(32) three times, Var(8) twice, Select(7,2,0,2), pairs (0,3), (1,4);
+-- target the same variables, Var(8), Eq(0,2), Eq(1,2), Ite(c,u,5), Ite(d,v,8). Oldest first: 10
+abbrev two-stores : ℕ → ℕ → ℕ → ℕ → Lowering
+two-stores c u d v =
+    lowering (s5 0 32 0 0 0 (s5 0 32 0 0 0 (s5 0 32 0 0 0 (s5 0 8 0 0 0 (s5 0 8 0 0 0 (s5 37 7 2 0 2 [])))))) [] (0 ∷ 3 ∷ 1 ∷ 4 ∷ []) [] (0 ∷ 1 ∷ 2 ∷ 3 ∷ 4 ∷ 9 ∷ [])
+    (5 ∷ 7 ∷ 2 ∷ []) [] []
+    (t4 0 32 0 0 (t4 0 32 0 0 (t4 0 32 0 0 (t4 0 8 0 0 (t4 0 8 0 0 (t4 0 8 0 0 (t4 19 0 2 0 (t4 19 1 2 0 (t4 18 c u 5 (t4 18 d v 8 [])))))))))) [] []
+
+-- two calls of one function, each with one argument, and the target roots
+abbrev two-calls : List ℕ → Lowering
+two-calls troots =
+    lowering (s5 0 32 0 0 0 (s5 0 32 0 0 0 (s5 38 3 8 0 1 (s5 38 3 8 1 1 [])))) [] (0 ∷ 1 ∷ []) [] (0 ∷ 1 ∷ 2 ∷ 3 ∷ []) [] (2 ∷ 3 ∷ 0 ∷ 1 ∷ 3 ∷ 3 ∷ 1 ∷ 1 ∷ []) (0 ∷ 1 ∷ [])
+    (t4 0 32 0 0 (t4 0 32 0 0 (t4 0 8 0 0 (t4 0 8 0 0 (t4 19 0 1 0 (t4 29 4 0 0 (t4 19 2 3 0 (t4 31 5 6 0 [])))))))) [] troots
+
+cases-stores-calls : answer (two-stores 7 4 6 3) ∷ answer (two-stores 6 3 7 4) ∷ answer (two-calls (7 ∷ [])) ∷ answer (two-calls []) ∷ []
+    ≡ accepted ∷ words 10 5 0 ∷ accepted ∷ words 13 0 0 ∷ []
+unfolding firstRefusal build first all agree trace rowIs bothConst sameConst unequalConst sameRead sameFunction sameCall readGood callGood isEq isLevel walk endGood callMatches varMatches nodeMatches rowAnswer rowClasses leads pairsWith pairs readsNeed allEqual congruent rootAt
+cases-stores-calls = refl
+
+-- one test each, the others pass: a Call of width 16 with a Var(8) as image is 11; a Select at the second index with the first's entry is 10; an entry
+-- with an index of width 8 is 5; two variables with one image are 7
+cases-one-test : answer (lowering (s5 38 3 16 0 0 []) [] [] [] (0 ∷ []) [] (0 ∷ 3 ∷ 0 ∷ 0 ∷ []) [] (t4 0 8 0 0 []) [] [])
+    ∷ answer (lowering (s5 0 32 0 0 0 (s5 0 32 0 0 0 (s5 37 7 1 0 0 []))) [] [] [] (0 ∷ 1 ∷ 2 ∷ []) (2 ∷ 7 ∷ 0 ∷ []) [] [] (t4 0 32 0 0 (t4 0 32 0 0 (t4 0 8 0 0 []))) [] [])
+    ∷ answer (lowering [] [] [] [] [] (1 ∷ 7 ∷ 0 ∷ []) [] [] (t4 0 8 0 0 (t4 0 8 0 0 [])) [] [])
+    ∷ answer (lowering (s5 0 32 0 0 0 (s5 0 32 0 0 0 [])) [] [] [] (0 ∷ 0 ∷ []) [] [] [] (t4 0 32 0 0 []) [] [])
+    ∷ []
+    ≡ words 11 0 0 ∷ words 10 2 0 ∷ words 5 0 0 ∷ words 7 1 0 ∷ []
+unfolding firstRefusal build first all agree trace rowIs bothConst sameConst unequalConst sameRead sameFunction sameCall readGood callGood isEq isLevel walk endGood callMatches varMatches nodeMatches rowAnswer rowClasses leads pairsWith pairs readsNeed allEqual congruent rootAt
+cases-one-test = refl
 
 -- why a dead entry is refused (docs/PROOF.md): source Var(32) twice, Select(7,0), Select(7,1), Ne(2,3), root 4, is satisfiable. The target has a third entry,
 -- variable 5, whose index Ite(Eq(5,2),1,0) mentions its own variable and which no Select reaches; with the roots that its pairs need it is not satisfiable

@@ -24,10 +24,10 @@ use Rattle.lowering.specs.declared.Walk.{Walk}
 use Rattle.lowering.specs.declared.Walk.the-variants.{RanOut, Met, Lost}
 use Rattle.lowering.specs.Images.{MAX}
 use Rattle.lowering.specs.Matching.{endGood, callMatches, varMatches, matched, nodeAnswer, rowAnswer, endClasses, nodeClasses, rowClasses}
-use Rattle.lowering.specs.Check.{Lowering, sourceRows, targetRows, classesOfTables, classes, offsets}
+use Rattle.lowering.specs.Check.{Lowering, targetRows, classesOfTables, classes, offsets}
 use Rattle.lowering.proofs.Classes.{classes-keep-length}
 use Rattle.soundness.proofs.Facts.{S, T, m, Mapped, Formed, walkOf}
-use Rattle.soundness.specs.Passed.{Passed}
+use Rattle.soundness.specs.Passed.{Reached, Passed}
 use Rattle.soundness.proofs.Images.{one-of, row-is}
 use Rattle.soundness.proofs.Marks.{set-holds}
 use Rattle.soundness.proofs.Tables.{tables-length, ReadAt, CallAt, class-from, class-of-read, class-of-call}
@@ -141,14 +141,9 @@ module _ (L : Lowering) where
         record { function-here = eqb-true _ _ x; count-here = eqb-true _ _ y; args-here = agree-at _ _ k z },
       )
 
-module _ (L : Lowering) (P : Passed L) (F : Formed L) (small : targetRows L ≤ MAX) where
+module _ (L : Lowering) {N : ℕ} (E : Reached L N) where
   pub classes-length : (n : ℕ) → length (classes L n) ≡ targetRows L
-  classes-length n = classes-keep-length L n ∙ tables-length L P
-
-  -- a mapped row's answer is its node's
-  pub mapped-passed : (i : ℕ) → Mapped L i → isAccepted (answerAt L i (S L i)) ≡ true
-  unfolding rowAnswer
-  mapped-passed i (h, u) = rw (ne-eqb (m L i) MAX (λ z. omega arith), lt-ltb (m L i) (targetRows L) u) at (P .rows i h)
+  classes-length n = classes-keep-length L n ∙ tables-length L E
 
   -- how the classes change at a mapped row
   turn-end : (i a j : ℕ) → Mapped L i → (o : Walk) → used L i ≡ usedEnd L o → endOf L i a j o ≡ true → (r : ℕ)
@@ -179,13 +174,13 @@ module _ (L : Lowering) (P : Passed L) (F : Formed L) (small : targetRows L ≤ 
   turn-node i x Unknown n e r = stays refl
 
   -- how they change at any row
-  pub turn : (i : ℕ) → i < sourceRows L → (r : ℕ) → Turns L r (getD (classes L i) r 0) (getD (classes L (suc i)) r 0)
+  pub turn : (i : ℕ) → i < N → (r : ℕ) → Turns L r (getD (classes L i) r 0) (getD (classes L (suc i)) r 0)
   unfolding trace rowClasses rowAnswer
-  turn i h r = go (eqb (m L i) MAX) (P .rows i h)
+  turn i h r = go (eqb (m L i) MAX) (E .rows i h)
     where
       mapped : (b : Bool) → ltb (m L i) (targetRows L) ≡ b → isAccepted (cond b (answerAt L i (S L i)) (MapOutOfRange i)) ≡ true
           → Turns L r (getD (classes L i) r 0) (getD (classesAt L i (S L i)) r 0)
-      mapped true u e = turn-node i (h, ltb-true (m L i) (targetRows L) u) (S L i) refl e r
+      mapped true u e = turn-node i (omega (arith, E .inside), ltb-true (m L i) (targetRows L) u) (S L i) refl e r
       mapped false u e = no-way (sym e)
 
       go : (b : Bool) → isAccepted (cond b Accepted (cond (ltb (m L i) (targetRows L)) (answerAt L i (S L i)) (MapOutOfRange i))) ≡ true
@@ -194,7 +189,7 @@ module _ (L : Lowering) (P : Passed L) (F : Formed L) (small : targetRows L ≤ 
       go false e = mapped (ltb (m L i) (targetRows L)) refl e
 
   -- what turns keep and holds of a class before row k, holds before row n
-  pub rows-hold : (Q : ℕ → Type 0) (r k n : ℕ) → ((c d : ℕ) → Turns L r c d → Q c → Q d) → k ≤ n → n ≤ sourceRows L → Q (getD (classes L k) r 0)
+  pub rows-hold : (Q : ℕ → Type 0) (r k n : ℕ) → ((c d : ℕ) → Turns L r c d → Q c → Q d) → k ≤ n → n ≤ N → Q (getD (classes L k) r 0)
       → Q (getD (classes L n) r 0)
   rows-hold Q r k zero t h u x = let e : k ≡ 0 = omega arith in subst (λ (z : ℕ). Q (getD (classes L z) r 0)) e x
   rows-hold Q r k (suc n) t h u x =
@@ -202,26 +197,32 @@ module _ (L : Lowering) (P : Passed L) (F : Formed L) (small : targetRows L ≤ 
       (λ v. t _ _ (turn n u r) (rows-hold Q r k n t (omega arith) (omega arith) x)) (eq-or-lt-of-le h)
 
   -- a class has the kind that the tables gave it
-  pub kind-stays : (r n : ℕ) → n ≤ sourceRows L → kind (getD (classes L n) r 0) ≡ kind (getD (classesOfTables L) r 0)
+  pub kind-stays : (r n : ℕ) → n ≤ N → kind (getD (classes L n) r 0) ≡ kind (getD (classesOfTables L) r 0)
   unfolding trace
   kind-stays r n h =
       rows-hold (λ c. kind c ≡ kind (getD (classesOfTables L) r 0)) r 0 n (λ c d t q. turn-kind L r c d t ∙ q) (omega arith) h refl
 
   -- a target row in a read's class has a read's entry, one in a call's class a call's
-  pub read-at : (r n : ℕ) → n ≤ sourceRows L → r < targetRows L → kind (getD (classes L n) r 0) ≡ 2 → ReadAt L r
+  pub read-at : (r n : ℕ) → n ≤ N → r < targetRows L → kind (getD (classes L n) r 0) ≡ 2 → ReadAt L r
   unfolding kind
   read-at r n h u e =
       let k : kind (getD (classesOfTables L) r 0) ≡ 2 = sym (kind-stays r n h) ∙ e in
-      ⊎-elim (λ q. let z : _≡_ {A = ℕ} 0 2 = rw q at k in absurd (omega arith)) (⊎-elim (λ x. x) (λ x. go k x)) (class-from L P r u)
+      ⊎-elim (λ q. let z : _≡_ {A = ℕ} 0 2 = rw q at k in absurd (omega arith)) (⊎-elim (λ x. x) (λ x. go k x)) (class-from L E r u)
     where
       go : kind (getD (classesOfTables L) r 0) ≡ 2 → CallAt L r → ReadAt L r
-      go k (q, l, v) = let z : _≡_ {A = ℕ} 3 2 = rw (← v, class-of-call L P q l) at k in absurd (omega arith)
+      go k (q, l, v) = let z : _≡_ {A = ℕ} 3 2 = rw (← v, class-of-call L E q l) at k in absurd (omega arith)
 
-  pub call-at : (r n : ℕ) → n ≤ sourceRows L → r < targetRows L → kind (getD (classes L n) r 0) ≡ 3 → CallAt L r
+  pub call-at : (r n : ℕ) → n ≤ N → r < targetRows L → kind (getD (classes L n) r 0) ≡ 3 → CallAt L r
   unfolding kind
   call-at r n h u e =
       let k : kind (getD (classesOfTables L) r 0) ≡ 3 = sym (kind-stays r n h) ∙ e in
-      ⊎-elim (λ q. let z : _≡_ {A = ℕ} 0 3 = rw q at k in absurd (omega arith)) (⊎-elim (λ x. go k x) (λ x. x)) (class-from L P r u)
+      ⊎-elim (λ q. let z : _≡_ {A = ℕ} 0 3 = rw q at k in absurd (omega arith)) (⊎-elim (λ x. go k x) (λ x. x)) (class-from L E r u)
     where
       go : kind (getD (classesOfTables L) r 0) ≡ 3 → ReadAt L r → CallAt L r
-      go k (q, l, v) = let z : _≡_ {A = ℕ} 2 3 = rw (← v, class-of-read L P q l) at k in absurd (omega arith)
+      go k (q, l, v) = let z : _≡_ {A = ℕ} 2 3 = rw (← v, class-of-read L E q l) at k in absurd (omega arith)
+
+module _ (L : Lowering) (P : Passed L) (F : Formed L) (small : targetRows L ≤ MAX) where
+  -- a mapped row's answer is its node's
+  pub mapped-passed : (i : ℕ) → Mapped L i → isAccepted (answerAt L i (S L i)) ≡ true
+  unfolding rowAnswer
+  mapped-passed i (h, u) = rw (ne-eqb (m L i) MAX (λ z. omega arith), lt-ltb (m L i) (targetRows L) u) at (P .reached .rows i h)

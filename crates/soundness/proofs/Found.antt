@@ -50,18 +50,18 @@ module _ (L : Lowering) (P : Passed L) (F : Formed L) (small : targetRows L ≤ 
   unfolding endGood
   end-found i a j h (RanOut r) e =
       let (u, c, x, y) = ran-out L i a j r e in
-      go x y (read-at L P F small r i (omega arith) u c)
+      go x y (read-at L (P .reached) r i (omega arith) u c)
     where
       go : getD (L .reads) (getD (offsets L) r 0 + 1) 0 ≡ a → getD (L .reads) (getD (offsets L) r 0 + 2) 0 ≡ m L j → ReadAt L r → Ends L a j (RanOut r)
       go x y (q, l, v) =
-          let o : q * 3 ≡ getD (offsets L) r 0 = sym (offset-of-read L P q l) ∙ ap (λ (z : ℕ). getD (offsets L) z 0) v in
+          let o : q * 3 ≡ getD (offsets L) r 0 = sym (offset-of-read L (P .reached) q l) ∙ ap (λ (z : ℕ). getD (offsets L) z 0) v in
           (q, record { inside = l; variable-is = v; array-is = ap (λ (z : ℕ). getD (L .reads) (z + 1) 0) o ∙ x; index-is = ap (λ (z : ℕ). getD (L .reads) (z + 2) 0) o ∙ y })
   end-found i a j h (Met r v) e = eqb-true _ _ e
   end-found i a j h Lost e = no-way (sym e)
 
   call-found : (r f k : ℕ) (xs : ℕ → ℕ) → CallHere L r f k xs → CallAt L r → (q : ℕ) × CallOf L q r f k xs
   call-found r f k xs here (q, l, v) =
-      let o : q * 4 ≡ getD (offsets L) r 0 = sym (offset-of-call L P q l) ∙ ap (λ (z : ℕ). getD (offsets L) z 0) v in (
+      let o : q * 4 ≡ getD (offsets L) r 0 = sym (offset-of-call L (P .reached) q l) ∙ ap (λ (z : ℕ). getD (offsets L) z 0) v in (
         q,
         record {
           inside = l;
@@ -85,7 +85,7 @@ module _ (L : Lowering) (P : Passed L) (F : Formed L) (small : targetRows L ≤ 
   found i x (Select a j s k) n e = end-found i a j (x .0) (walkOf L j k s (m L i)) (test-of _ (ChainMismatch i) refl e)
   found i x (Call f w s k) n e =
       let (v, c, here) = call-passed L i f w s k e in
-      (v, call-found (m L i) f k _ here (call-at L P F small (m L i) i (omega (arith, x .0)) (x .1) c))
+      (v, call-found (m L i) f k _ here (call-at L (P .reached) (m L i) i (omega (arith, x .0)) (x .1) c))
   found i x Unknown n e = no-way (sym e)
 
   pub of-row : (i : ℕ) → Mapped L i → Found L i (S L i)

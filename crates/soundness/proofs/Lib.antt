@@ -17,3 +17,5 @@ pub mod Backward
 pub mod Reach
 pub mod Accepted
 pub mod Theorem
+pub mod Guards
+pub mod Model

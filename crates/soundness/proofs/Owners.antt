@@ -49,13 +49,13 @@ module _ (L : Lowering) (P : Passed L) (F : Formed L) (small : targetRows L ≤ 
   unfolding trace rowClasses
   var-after i w (h, u) e =
       rw (ne-eqb (m L i) MAX (λ z. omega arith))
-      (ap (λ (n : Node). getD (classesAt L i n) (m L i) 0) e ∙ getD-set-same (classes L i) (m L i) 1 0 (rw (classes-length L P F small i) u))
+      (ap (λ (n : Node). getD (classesAt L i n) (m L i) 0) e ∙ getD-set-same (classes L i) (m L i) 1 0 (rw (classes-length L (P .reached) i) u))
 
   -- two mapped variables have two images
   vars-apart : (i j w v : ℕ) → i < j → Mapped L i → Mapped L j → S L i ≡ Var w → S L j ≡ Var v → m L i ≡ m L j → ⊥
   vars-apart i j w v h x y e f q =
       let one : getD (classes L j) (m L i) 0 ≡ 1 =
-      rows-hold L P F small (λ c. c ≡ 1) (m L i) (suc i) j (turn-one L (m L i)) h (omega (arith, y .0)) (var-after i w x e) in
+      rows-hold L (P .reached) (λ c. c ≡ 1) (m L i) (suc i) j (turn-one L (m L i)) h (omega (arith, y .0)) (var-after i w x e) in
       let none : getD (classes L j) (m L i) 0 ≡ 0 = rw q (var-free j v y f) in
       omega arith
 
@@ -68,19 +68,19 @@ module _ (L : Lowering) (P : Passed L) (F : Formed L) (small : targetRows L ≤ 
   owner-kind : (o : Owner) (r : ℕ) → Owns L o r → kind (getD (classesOfTables L) r 0) ≡ kindOf o
   unfolding kind
   owner-kind (by-var i) r (x, (w, e), q) =
-      rw (← q) (sym (kind-stays L P F small (m L i) i (omega (arith, x .0))) ∙ ap kind (var-free i w x e))
-  owner-kind (by-read q) r (h, v) = rw (← v) (ap kind (class-of-read L P q h))
-  owner-kind (by-call q) r (h, v) = rw (← v) (ap kind (class-of-call L P q h))
+      rw (← q) (sym (kind-stays L (P .reached) (m L i) i (omega (arith, x .0))) ∙ ap kind (var-free i w x e))
+  owner-kind (by-read q) r (h, v) = rw (← v) (ap kind (class-of-read L (P .reached) q h))
+  owner-kind (by-call q) r (h, v) = rw (← v) (ap kind (class-of-call L (P .reached) q h))
 
   -- two entries of one table at one place have one offset
   reads-one : (q p r : ℕ) → Owns L (by-read q) r → Owns L (by-read p) r → q ≡ p
   reads-one q p r (h, e) (l, f) =
-      let z : q * 3 ≡ p * 3 = sym (offset-of-read L P q h) ∙ ap (λ (x : ℕ). getD (offsets L) x 0) (e ∙ sym f) ∙ offset-of-read L P p l in
+      let z : q * 3 ≡ p * 3 = sym (offset-of-read L (P .reached) q h) ∙ ap (λ (x : ℕ). getD (offsets L) x 0) (e ∙ sym f) ∙ offset-of-read L (P .reached) p l in
       omega arith
 
   calls-one : (q p r : ℕ) → Owns L (by-call q) r → Owns L (by-call p) r → q ≡ p
   calls-one q p r (h, e) (l, f) =
-      let z : q * 4 ≡ p * 4 = sym (offset-of-call L P q h) ∙ ap (λ (x : ℕ). getD (offsets L) x 0) (e ∙ sym f) ∙ offset-of-call L P p l in
+      let z : q * 4 ≡ p * 4 = sym (offset-of-call L (P .reached) q h) ∙ ap (λ (x : ℕ). getD (offsets L) x 0) (e ∙ sym f) ∙ offset-of-call L (P .reached) p l in
       omega arith
 
   vars-one : (i j r : ℕ) → Owns L (by-var i) r → Owns L (by-var j) r → i ≡ j
@@ -138,16 +138,16 @@ module _ (L : Lowering) (P : Passed L) (F : Formed L) (small : targetRows L ≤ 
   entry-used : (r : ℕ) → r < targetRows L → either (getD (classesOfTables L) r 0) 2 3 ≡ true → Used L r
   unfolding trace
   entry-used r h e =
-      rows-hold L P F small (λ c. either c 2 3 ≡ false → Used L r) r 0 (sourceRows L) (turn-live L r) (omega arith) (omega arith)
+      rows-hold L (P .reached) (λ c. either c 2 3 ≡ false → Used L r) r 0 (sourceRows L) (turn-live L r) (omega arith) (omega arith)
       (λ z. no-way (sym e ∙ z)) (P .live r h)
 
   -- the variable of every owner is a row of the target that some row uses
   pub live : (o : Owner) (r : ℕ) → Owns L o r → (r < targetRows L) × Used L r
   live (by-var i) r (x, (w, e), q) = (rw (← q) (x .1), (i, (x, ap (usedAt L (m L i)) e ∙ q)))
   live (by-read q) r (h, v) =
-      let u : r < targetRows L = rw v at (read-facts L P q h .0) in (u, entry-used r u (rw (← v, class-of-read L P q h)))
+      let u : r < targetRows L = rw v at (read-facts L (P .reached) q h .0) in (u, entry-used r u (rw (← v, class-of-read L (P .reached) q h)))
   live (by-call q) r (h, v) =
-      let u : r < targetRows L = rw v at (call-facts L P q h .0) in (u, entry-used r u (rw (← v, class-of-call L P q h)))
+      let u : r < targetRows L = rw v at (call-facts L (P .reached) q h .0) in (u, entry-used r u (rw (← v, class-of-call L (P .reached) q h)))
 
   -- some row stands behind every owner
   some-behind : (o : Owner) (r : ℕ) → Owns L o r → (i : ℕ) × (i < sourceRows L) × Behind L o i
@@ -162,13 +162,13 @@ module _ (L : Lowering) (P : Passed L) (F : Formed L) (small : targetRows L ≤ 
 
   pub of-read : (q : ℕ) → q < readCount (L .reads) → ReadEntry L q
   of-read q h =
-      let (a, b, _, _) = read-facts L P q h in
-      let (u, w) = read-index L P q h in
+      let (a, b, _, _) = read-facts L (P .reached) q h in
+      let (u, w) = read-index L (P .reached) q h in
       let (i, l, x) = some-behind (by-read q) (readVar (L .reads) q) (h, refl) in
       record { inside = a; is-var = b; index-width = w; index-image = image-of i _ l u x }
 
   pub of-call : (q : ℕ) → q < callCount (L .calls) → CallEntry L q
   of-call q h =
-      let (a, b, _, r) = call-facts L P q h in
+      let (a, b, _, r) = call-facts L (P .reached) q h in
       let (i, v, x) = some-behind (by-call q) (callVar (L .calls) q) (h, refl) in
       record { inside = a; width = _; is-var = b; args-image = λ l u. image-of i _ v (r l u) (x l u) }

@@ -3,6 +3,7 @@ use Prim.Native.Nat.{ℕ}
 use mathlib.Core.Path.{_≡_, refl, sym, _∙_}
 use mathlib.Core.Bool.{Bool, true, false, cond}
 use mathlib.Core.List.{List, [], _∷_, _++_}
+use native.Mathlib.Omega.{arith}
 use borrow.Author.Tests.{eqb-true, ltb-false, not-false}
 use lib.ListN.{length}
 use Rattle.answers.specs.declared.Answer.{Answer}
@@ -55,9 +56,12 @@ module _ (L : Lowering) (ws0 ws1 cls ent : List ℕ) (accepts : Accepts L ws0 ws
         source-formed = ltb-false _ _ (not-refused _ _ refl eform);
         target-formed = ltb-false _ _ (not-refused _ _ refl tform);
         map-length = eqb-true _ _ (not-false _ (not-refused _ _ refl map));
-        reads = all-pass _ _ (not-refused _ _ refl reads);
-        calls = all-pass _ _ (not-refused _ _ refl calls);
-        rows = all-pass _ _ (first-refused (answerOf L) (sourceRows L) _ refl rows);
+        reached = record {
+          inside = omega arith;
+          reads = all-pass _ _ (not-refused _ _ refl reads);
+          calls = all-pass _ _ (not-refused _ _ refl calls);
+          rows = all-pass _ _ (first-refused (answerOf L) (sourceRows L) _ refl rows);
+        };
         live = all-fail _ _ (not-refused _ _ refl dead);
         leading = all-pass _ _ (not-refused _ _ refl lead);
         read-roots = all-pass _ _ (not-refused _ _ refl rroots);

@@ -84,7 +84,7 @@ module _ (L : Lowering) (P : Passed L) where
   -- a row that is not skipped has its image in the target
   pub within : (i : ℕ) → i < sourceRows L → (m L i ≡ MAX → ⊥) → m L i < targetRows L
   unfolding rowAnswer
-  within i h n = ltb-true _ _ (in-range (eqb (m L i) MAX) (ltb (m L i) (targetRows L)) _ i (P .rows i h) (ne-eqb (m L i) MAX n))
+  within i h n = ltb-true _ _ (in-range (eqb (m L i) MAX) (ltb (m L i) (targetRows L)) _ i (P .reached .rows i h) (ne-eqb (m L i) MAX n))
 
   -- past the map, which is as long as the source, every row is skipped
   mapped : (i : ℕ) → (m L i ≡ MAX → ⊥) → Mapped L i

@@ -1,11 +1,11 @@
 -- What the two tables give: each entry's variable, its class and its offset, and whose a place with a class is. Assumes nothing.
-use Prim.Native.Nat.{ℕ, _*_, _<_}
+use Prim.Native.Nat.{ℕ, _+_, _*_, _<_, _≤_}
 use mathlib.Core.Path.{_≡_, refl, sym, _∙_}
 use mathlib.Core.Bool.{true}
 use mathlib.Core.Logic.{_⊎_, inl, inr, ⊎-elim}
 use mathlib.Core.List.{List, []}
 use native.Mathlib.Omega.{arith}
-use borrow.Author.Tests.{eqb-true, ltb-true, leb-false}
+use borrow.Author.Tests.{eqb-true, ltb-true, leb-true, leb-false}
 use lib.ListN.{length, getD, replicate, length-replicate, getD-replicate}
 use Rattle.lists.specs.Trace.{marks}
 use Rattle.lists.proofs.Build.{build-length}
@@ -18,11 +18,11 @@ use Rattle.rows.specs.Row.{rowAt}
 use Rattle.wf.specs.Rule.{indexWidth, cellWidth, hasWidth}
 use Rattle.wf.specs.Widths.{rowWidth}
 use Rattle.lowering.specs.Images.{fieldAt}
-use Rattle.lowering.specs.Tables.{readCount, readVar, readArray, readIndex, callCount, callVar, argCount, callArg, readGood, callGood, readClasses, callClasses, readOffsets}
+use Rattle.lowering.specs.Tables.{readCount, readVar, readArray, readIndex, callCount, callVar, callStart, argCount, callArg, readGood, callGood, readClasses, callClasses, readOffsets}
 use Rattle.lowering.specs.Check.{Lowering, targetRows, targetWidths, noClasses, classesOfReads, classesOfTables, offsets}
 use Rattle.lowering.proofs.Marks.{marks-length}
 use Rattle.soundness.proofs.Facts.{T}
-use Rattle.soundness.specs.Passed.{Passed}
+use Rattle.soundness.specs.Passed.{Reached}
 use Rattle.soundness.proofs.Images.{row-is, var-row}
 use Rattle.soundness.proofs.Marks.{table-at, table-stay, table-from}
 
@@ -34,7 +34,7 @@ module _ (L : Lowering) where
   abbrev pub CallAt : ℕ → Type 0
   CallAt r = (q : ℕ) × (q < callCount (L .calls)) × (callVar (L .calls) q ≡ r)
 
-module _ (L : Lowering) (P : Passed L) where
+module _ (L : Lowering) {N : ℕ} (E : Reached L N) where
   -- what the tests of an entry say
   pub read-facts : (q : ℕ) → q < readCount (L .reads)
       → (readVar (L .reads) q < targetRows L) × (T L (readVar (L .reads) q) ≡ Var (cellWidth (readArray (L .reads) q)))
@@ -42,7 +42,7 @@ module _ (L : Lowering) (P : Passed L) where
       × (hasWidth (targetWidths L) (readIndex (L .reads) q) (indexWidth (readArray (L .reads) q)) ≡ true)
   unfolding readGood
   read-facts q h =
-      let (_, (a, (b, (c, (d, _))))) = all-true _ (P .reads q h) in
+      let (_, (a, (b, (c, (d, _))))) = all-true _ (E .reads q h) in
       (ltb-true _ _ a, row-is (rowAt Target (L .target) (readVar (L .reads) q)) (Var (cellWidth (readArray (L .reads) q))) tt b, eqb-true _ _ c, d)
 
   pub call-facts : (q : ℕ) → q < callCount (L .calls)
@@ -51,12 +51,22 @@ module _ (L : Lowering) (P : Passed L) where
       × ((l : ℕ) → l < argCount (L .calls) q → callArg (L .calls) (L .cargs) q l < targetRows L)
   unfolding callGood
   call-facts q h =
-      let (_, (a, (b, (c, (_, (d, _)))))) = all-true _ (P .calls q h) in (
+      let (_, (a, (b, (c, (_, (d, _)))))) = all-true _ (E .calls q h) in (
         ltb-true _ _ a,
         var-row (rowAt Target (L .target) (callVar (L .calls) q)) (eqb-true _ _ b),
         eqb-true _ _ c,
         λ l u. leb-false (targetRows L) (callArg (L .calls) (L .cargs) q l) (none-at _ (argCount (L .calls) q) d l u),
       )
+
+  -- an entry is whole, and so are a call's arguments
+  pub read-whole : (q : ℕ) → q < readCount (L .reads) → q * 3 + 3 ≤ length (L .reads)
+  unfolding readGood
+  read-whole q h = leb-true _ _ (all-true _ (E .reads q h) .0)
+
+  pub call-whole : (q : ℕ) → q < callCount (L .calls)
+      → (q * 4 + 4 ≤ length (L .calls)) × (callStart (L .calls) q + argCount (L .calls) q ≤ length (L .cargs))
+  unfolding callGood
+  call-whole q h = let (a, (_, (_, (_, (b, _))))) = all-true _ (E .calls q h) in (leb-true _ _ a, leb-true _ _ b)
 
   -- the index of a read is a row of its width
   pub read-index : (q : ℕ) → q < readCount (L .reads)

@@ -1,3 +1,4 @@
 pub mod Sound
 pub mod Transfer
 pub mod Passed
+pub mod Guards

@@ -11,6 +11,13 @@ use Rattle.lowering.specs.Tables.{readCount, callCount, readGood, callGood, rea
 use Rattle.lowering.specs.Roots.{pair, leads, rootAt, readRoot, callRoot}
 use Rattle.lowering.specs.Check.{Lowering, sourceRows, targetRows, sourceIll, targetIll, targetWidths, noClasses, classesOfReads, classes, answerOf, pairsOfReads, pairsOfCalls, callRoots, rootsEnd}
 
+-- before row n: both tables, and the rows before it
+pub record Reached (L : Lowering) (n : ℕ) : Type 0 where
+  pub inside : n ≤ sourceRows L
+  pub reads : (k : ℕ) → k < readCount (L .reads) → readGood (L .reads) (L .target) (targetWidths L) (readClasses (L .reads) (noClasses L) k) k ≡ true
+  pub calls : (k : ℕ) → k < callCount (L .calls) → callGood (L .calls) (L .cargs) (L .target) (callClasses (L .calls) (classesOfReads L) k) k ≡ true
+  pub rows : (i : ℕ) → i < n → isAccepted (answerOf L i) ≡ true
+
 pub record Passed (L : Lowering) : Type 0 where
   pub source-rows : sourceRows L ≤ badRow Source (L .source)
   pub target-rows : targetRows L ≤ badRow Target (L .target)
@@ -19,9 +26,7 @@ pub record Passed (L : Lowering) : Type 0 where
   pub source-formed : sourceRows L ≤ sourceIll L
   pub target-formed : targetRows L ≤ targetIll L
   pub map-length : length (L .map) ≡ sourceRows L
-  pub reads : (k : ℕ) → k < readCount (L .reads) → readGood (L .reads) (L .target) (targetWidths L) (readClasses (L .reads) (noClasses L) k) k ≡ true
-  pub calls : (k : ℕ) → k < callCount (L .calls) → callGood (L .calls) (L .cargs) (L .target) (callClasses (L .calls) (classesOfReads L) k) k ≡ true
-  pub rows : (i : ℕ) → i < sourceRows L → isAccepted (answerOf L i) ≡ true
+  pub reached : Reached L (sourceRows L)
   pub live : (r : ℕ) → r < targetRows L → either (getD (classes L (sourceRows L)) r 0) 2 3 ≡ false
   pub leading : (k : ℕ) → k < length (L .eroots) → leads (L .map) (L .eroots) (L .troots) k ≡ true
   pub read-roots : (q : ℕ) → q < length (pairsOfReads L)
