@@ -20,6 +20,7 @@ use Rattle.rows.specs.declared.Node.{Node}
 use Rattle.rows.specs.declared.Node.the-variants.{Var, Const, Un, Bin, Extract, Extend, Ite, Select, Call, Unknown}
 use Rattle.rows.specs.Row.{rowAt}
 use Rattle.rows.specs.Tags.{either}
+use Rattle.rows.proofs.Tags.{one-of}
 use Rattle.lowering.specs.declared.Walk.{Walk}
 use Rattle.lowering.specs.declared.Walk.the-variants.{RanOut, Met, Lost}
 use Rattle.lowering.specs.Images.{MAX}
@@ -27,7 +28,7 @@ use Rattle.lowering.specs.Matching.{endGood, callMatches, varMatches, ma
 use Rattle.lowering.specs.Check.{Lowering, sourceRows, targetRows, classesOfTables, classes, offsets}
 use Rattle.lowering.proofs.Facts.{S, T, m, Mapped, Formed, walkOf}
 use Rattle.lowering.proofs.Passed.{Passed}
-use Rattle.lowering.proofs.Images.{one-of, row-is}
+use Rattle.lowering.proofs.Images.{row-is}
 use Rattle.lowering.proofs.Marks.{set-holds}
 use Rattle.lowering.proofs.Tables.{tables-length, ReadAt, CallAt, class-from, class-of-read, class-of-call}
 

@@ -16,7 +16,7 @@ use Rattle.rows.specs.declared.Node.the-variants.{Var, Const, Un, Bin, Extract,
 use Rattle.rows.specs.Row.{rowAt}
 use Rattle.rows.specs.Tags.{tVar}
 use Rattle.rows.specs.Node.{operands, TagGood}
-use Rattle.rows.proofs.Tags.{node-good}
+use Rattle.rows.proofs.Tags.{un-tags, extend-tags, node-good}
 use Rattle.value.specs.Operate.{tagOf, parameters}
 use Rattle.lowering.specs.declared.Walk.{Walk}
 use Rattle.lowering.specs.declared.Walk.the-variants.{RanOut, Met, Lost}
@@ -25,7 +25,7 @@ use Rattle.lowering.specs.Matching.{endGood, nodeMatches}
 use Rattle.lowering.specs.Check.{Lowering, sourceRows, targetRows, offsets}
 use Rattle.lowering.proofs.Facts.{S, T, m, Mapped, Formed, SameCore, CallOf, Ends, walkOf, Found}
 use Rattle.lowering.proofs.Passed.{Passed}
-use Rattle.lowering.proofs.Images.{un-tags, extend-tags, row-is, map-good, same-const}
+use Rattle.lowering.proofs.Images.{row-is, map-good, same-const}
 use Rattle.lowering.proofs.Tables.{ReadAt, CallAt, offset-of-read, offset-of-call}
 use Rattle.lowering.proofs.Classes.{test-of, answerAt, endOf, var-passed, ran-out, CallHere, call-passed, mapped-passed, read-at, call-at}
 
