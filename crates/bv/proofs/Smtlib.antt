@@ -1,15 +1,15 @@
 -- The operators whose definition is not SMT-LIB's text word for word have the value that the text gives, at every width. Each law stands beside
 -- SMT-LIB's formula: [[s]] is a function from places to bits, here `bit s`; m is the width of t. Assumes nothing.
 use Prim.Native.Nat.{ℕ, zero, suc, _<_, _≤_, _+_, _-_, _*_, _/_, _%_, _^_}
-use mathlib.Core.Path.{_≡_, refl, sym, ap, _∙_}
+use mathlib.Core.Path.{_≡_, refl, sym, ap, ap₂, _∙_, subst}
 use mathlib.Core.Bool.{Bool, true, false, cond, _&&_, _||_}
 use native.Mathlib.Omega.{arith}
-use native.Mathlib.Nat.{mul-assoc, mul-add-div-right, mul-add-mod-self-right}
+use native.Mathlib.Nat.{mul-assoc, mul-add-div-right, mul-add-mod-self-right, mod-eq-of-lt, mod-le, div-one, div-le-self, lt-of-le-of-lt, pow-suc}
 use borrow.Author.Tests.{le-leb, lt-leb, ltb-true, ltb-false, eqb-true, eqb-false}
 use lib.Dec.{eqb, ltb, leb}
-use lib.Pow.{pow-pos, pow-add, shr-shr, high, field, mod-mod-pow}
-use Rattle.bv.specs.Bits.{bit, ofBool}
-use Rattle.bv.specs.Bv.{concat, extract, msb, bySigns, bvule, bvslt, bvsle}
+use lib.Pow.{pow-pos, pow-add, shr-shr, shr-mod, high, field, mod-mod-pow}
+use Rattle.bv.specs.Bits.{bit, ofBits, ofBool}
+use Rattle.bv.specs.Bv.{nat2bv, bvnot, bvudiv, bvurem, bvlshr, bvashr, concat, extract, zero-extend, sign-extend, rotate-right, rotate-left, msb, bySigns, bvule, bvslt, bvsle}
 
 -- ---- [[(concat s t)]] := λx:[0, n+m). if (x < m) then [[t]](x) else [[s]](x - m)
 low-bit : (v a b k : ℕ) → k < v → bit (concat v a b) k ≡ bit b k
@@ -96,3 +96,95 @@ slt-law w a b = by-tops w a b (ltb a b)
 
 pub sle-law : (w a b : ℕ) → bvsle w a b ≡ ofBool (sle w a b)
 sle-law w a b = rw (← leb-law a b) (by-tops w a b (leb a b))
+
+-- ---- [[(bvudiv s t)]] := if bv2nat([[t]]) = 0 then λx:[0, m). 1 else nat2bv[m](bv2nat([[s]]) div bv2nat([[t]]))
+ones-bits : (w : ℕ) → 2 ^ w - 1 ≡ ofBits w (λ k. 1)
+unfolding ofBits
+ones-bits zero = refl
+ones-bits (suc w) = omega (arith, pow-suc 2 w, pow-pos w, ones-bits w)
+
+pub udiv-law : (w a b : ℕ) → a < 2 ^ w → bvudiv w a b ≡ cond (eqb b 0) (ofBits w (λ k. 1)) (nat2bv w (a / b))
+udiv-law w a b l = ap₂ (cond (eqb b 0)) (ones-bits w) (sym (mod-eq-of-lt (lt-of-le-of-lt (div-le-self a b) l)))
+
+-- [[(bvurem s t)]] := if bv2nat([[t]]) = 0 then [[s]] else nat2bv[m](bv2nat([[s]]) rem bv2nat([[t]]))
+pub urem-law : (w a b : ℕ) → a < 2 ^ w → bvurem w a b ≡ cond (eqb b 0) a (nat2bv w (a % b))
+urem-law w a b l = ap (cond (eqb b 0) a) (sym (mod-eq-of-lt (lt-of-le-of-lt (mod-le a b) l)))
+
+-- ---- the choice of bvsdiv and bvsrem: (ite (and (= ?msb_s #b0) (= ?msb_t #b0)) pp (ite (and (= ?msb_s #b1) (= ?msb_t #b0)) np
+-- (ite (and (= ?msb_s #b0) (= ?msb_t #b1)) pn nn)))
+by-text : (x y pp np pn nn : ℕ) → x < 2 → y < 2
+    → cond (eqb x 1) (cond (eqb y 1) nn np) (cond (eqb y 1) pn pp)
+    ≡ cond (eqb x 0 && eqb y 0) pp (cond (eqb x 1 && eqb y 0) np (cond (eqb x 0 && eqb y 1) pn nn))
+by-text zero zero pp np pn nn h l = refl
+by-text zero (suc zero) pp np pn nn h l = refl
+by-text (suc zero) zero pp np pn nn h l = refl
+by-text (suc zero) (suc zero) pp np pn nn h l = refl
+by-text zero (suc (suc y)) pp np pn nn h l = absurd (omega arith)
+by-text (suc zero) (suc (suc y)) pp np pn nn h l = absurd (omega arith)
+by-text (suc (suc x)) y pp np pn nn h l = absurd (omega arith)
+
+pub signs-law : (w a b pp np pn nn : ℕ)
+    → bySigns w a b pp np pn nn
+    ≡ cond (eqb (top w a) 0 && eqb (top w b) 0) pp (cond (eqb (top w a) 1 && eqb (top w b) 0) np (cond (eqb (top w a) 0 && eqb (top w b) 1) pn nn))
+signs-law w a b pp np pn nn =
+    rw (← msb-law w a, ← msb-law w b) (by-text (msb w a) (msb w b) pp np pn nn (omega arith) (omega arith))
+
+-- ---- (bvashr s t) abbreviates (ite (= ((_ extract |m-1| |m-1|) s) #b0) (bvlshr s t) (bvnot (bvlshr (bvnot s) t)))
+other-way : (x p q : ℕ) → x < 2 → cond (eqb x 1) p q ≡ cond (eqb x 0) q p
+other-way zero p q h = refl
+other-way (suc zero) p q h = refl
+other-way (suc (suc x)) p q h = absurd (omega arith)
+
+pub ashr-text : (w a b : ℕ) → bvashr w a b ≡ cond (eqb (top w a) 0) (bvlshr w a b) (bvnot w (bvlshr w (bvnot w a) b))
+ashr-text w a b = rw (← msb-law w a) (other-way (msb w a) (bvnot w (bvlshr w (bvnot w a) b)) (bvlshr w a b) (omega arith))
+
+-- ---- ((_ repeat i) t) abbreviates (concat t ((_ repeat |i-1|) t)), here of one bit; none where i is 0, as ((_ sign_extend 0) t) abbreviates t
+unfoldable pub repeat : ℕ → ℕ → ℕ
+repeat zero x = 0
+repeat (suc i) x = concat i x (repeat i x)
+
+copies : (i x : ℕ) → x < 2 → cond (eqb x 1) (2 ^ i - 1) 0 ≡ repeat i x
+unfolding repeat
+copies zero zero h = refl
+copies zero (suc zero) h = refl
+copies (suc i) zero h = omega (arith, copies i 0 h)
+copies (suc i) (suc zero) h = omega (arith, pow-suc 2 i, pow-pos i, copies i 1 h)
+copies zero (suc (suc x)) h = absurd (omega arith)
+copies (suc i) (suc (suc x)) h = absurd (omega arith)
+
+-- ((_ zero_extend i) t) abbreviates (concat ((_ repeat i) #b0) t)
+pub zero-extend-law : (w i a : ℕ) → zero-extend w a ≡ concat w (repeat i 0) a
+zero-extend-law w i a = ap (λ (x : ℕ). concat w x a) (copies i 0 (omega arith))
+
+-- ((_ sign_extend i) t) abbreviates (concat ((_ repeat i) ((_ extract |m-1| |m-1|) t)) t)
+pub sign-extend-law : (w i a : ℕ) → sign-extend w i a ≡ concat w (repeat i (top w a)) a
+sign-extend-law w i a = ap (λ (x : ℕ). concat w x a) (copies i (msb w a) (omega arith) ∙ ap (repeat i) (msb-law w a))
+
+-- ---- ((_ rotate_left i) t) abbreviates t if m = 1, else
+-- ((_ rotate_left |i-1|) (concat ((_ extract |m-2| 0) t) ((_ extract |m-1| |m-1|) t)))
+pub rotate-left-law : (w i a : ℕ) → 1 < w → rotate-left w (suc i) a ≡ rotate-left w i (concat 1 (extract (w - 2) 0 a) (top w a))
+unfolding rotate-left
+rotate-left-law w i a h =
+    let e : w - 1 ≡ w - 2 - 0 + 1 = omega arith in
+    let x : a % 2 ^ (w - 1) ≡ extract (w - 2) 0 a = rw div-one (ap (λ (n : ℕ). a % 2 ^ n) e) in
+    ap₂ (λ (x y : ℕ). rotate-left w i (concat 1 x y)) x (msb-law w a)
+
+pub rotate-left-one : (i a : ℕ) → a < 2 → rotate-left 1 i a ≡ a
+unfolding rotate-left
+rotate-left-one zero a h = refl
+rotate-left-one (suc i) a h = let e : concat 1 (a % 1) (msb 1 a) ≡ a = omega arith in rw e (rotate-left-one i a h)
+
+-- ((_ rotate_right i) t) abbreviates t if m = 1, else ((_ rotate_right |i-1|) (concat ((_ extract 0 0) t) ((_ extract |m-1| 1) t)))
+pub rotate-right-law : (w i a : ℕ) → 1 < w → a < 2 ^ w
+    → rotate-right w (suc i) a ≡ rotate-right w i (concat (w - 1) (extract 0 0 a) (extract (w - 1) 1 a))
+unfolding rotate-right
+rotate-right-law w i a h l =
+    let e : w ≡ w - 1 - 1 + 1 + 1 = omega arith in
+    let x : a % 2 ≡ extract 0 0 a = rw div-one in
+    let y : a / 2 ≡ extract (w - 1) 1 a = sym (shr-mod (w - 1 - 1 + 1) 1 (subst (λ (n : ℕ). a < 2 ^ n) e l)) in
+    ap₂ (λ (x y : ℕ). rotate-right w i (concat (w - 1) x y)) x y
+
+pub rotate-right-one : (i a : ℕ) → a < 2 → rotate-right 1 i a ≡ a
+unfolding rotate-right
+rotate-right-one zero a h = refl
+rotate-right-one (suc i) a h = let e : concat 0 (a % 2) (a / 2) ≡ a = omega arith in rw e (rotate-right-one i a h)
