@@ -33,7 +33,7 @@ use Rattle.lowering.specs.Matching.{isLevel, walk}
 use Rattle.lowering.specs.Check.{Lowering, sourceRows, targetRows, sourceWidths}
 use Rattle.lowering.proofs.Facts.{S, T, m, Mapped, Formed, SameCore, ReadOf, CallOf, Ends, walkOf, Found, Matched}
 use Rattle.lowering.proofs.Images.{eq-row, ite-row, const-row, both-const, same-const}
-use Rattle.lowering.proofs.Values.{Pairs, pairs-formed, source-value, source-width}
+use Rattle.meaning.proofs.Values.{Pairs, pairs-formed, source-value, source-width}
 use Rattle.lowering.proofs.Tells.{tv, row-value, row-width, row-formed, eq-number, ite-number, val-ext}
 
 bool-test : (b : Bool) → eqb (ofBool b) 1 ≡ b

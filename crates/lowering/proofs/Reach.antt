@@ -32,7 +32,7 @@ use Rattle.lowering.specs.Check.{Lowering, sourceRows, targetRows, sourc
 use Rattle.lowering.proofs.Facts.{S, T, m, Mapped, Formed, SameCore, Ends, walkOf, Found, Owner, by-var, by-read, by-call, Owns, Matched}
 use Rattle.lowering.proofs.Passed.{Passed}
 use Rattle.lowering.proofs.Images.{eq-row, ite-row}
-use Rattle.lowering.proofs.Values.{Pairs, pairs-formed}
+use Rattle.meaning.proofs.Values.{Pairs, pairs-formed}
 use Rattle.lowering.proofs.Classes.{usedEnd, usedAt, used, Uses, Used}
 use Rattle.lowering.proofs.Owners.{SentBefore, Behind, OwnedBy, use-owner, use-behind, live}
 

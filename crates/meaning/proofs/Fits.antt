@@ -14,10 +14,14 @@ use Rattle.rows.specs.declared.Graph.the-variants.{Source}
 use Rattle.rows.specs.declared.Node.{Node}
 use Rattle.rows.specs.declared.Node.the-variants.{Var, Const, Un, Bin, Extract, Extend, Ite, Select, Call, Unknown}
 use Rattle.rows.specs.Row.{rowCount, rowAt}
+use Rattle.rows.specs.Encoding.{badBit}
 use Rattle.rows.specs.Node.{nodeOf, TagGood}
 use Rattle.rows.proofs.Tags.{un-tags, extend-tags, node-good}
+use Rattle.rows.proofs.Encoding.{clean}
 use Rattle.wf.specs.Rule.{cellWidth}
 use Rattle.wf.specs.Promise.{RowFormed, WellFormed}
+use Rattle.wf.specs.Widths.{illRow, widths}
+use Rattle.wf.proofs.Promise.{well-formed}
 use Rattle.value.specs.Val.{Val, val, wid, nat, Fit}
 use Rattle.value.specs.Operate.{tagOf}
 use Rattle.value.specs.Graph.{nodeValue}
@@ -40,11 +44,11 @@ stored-fits look side x cell m (suc k) s c f =
     go false v r = r
 
 module _ (bits side : List ℕ) (width : ℕ → ℕ) (look : ℕ → Val) (i : ℕ) (agree : (a : ℕ) → a < i → wid (look a) ≡ width a)
-    (fits : (a : ℕ) → Fit (look a)) (clean : (k : ℕ) → getD bits k 0 < 2) (I : Interpretation)
+    (fits : (a : ℕ) → Fit (look a)) (bit : (k : ℕ) → getD bits k 0 < 2) (I : Interpretation)
     (cells : (a x : ℕ) → I .array a x < 2 ^ cellWidth a) (results : (f w : ℕ) (vs : List Val) → I .function f w vs < 2 ^ w) where
   core : (node : Node) → TagGood node → tagOf node < 37 → RowFormed (length bits) side width i node → ((w : ℕ) → node ≡ Var w → I .variable i < 2 ^ w)
       → (wid (nodeValue bits (I .variable) look i node) ≡ width i) × Fit (nodeValue bits (I .variable) look i node)
-  core node g c r v = row-formed bits side width look i agree (I .variable) node clean fits g c r v
+  core node g c r v = row-formed bits side width look i agree (I .variable) node bit fits g c r v
 
   -- a row's value, where the operands before it have their widths and fit
   node-fits : (node : Node) → TagGood node → RowFormed (length bits) side width i node → ((w : ℕ) → node ≡ Var w → I .variable i < 2 ^ w)
@@ -68,7 +72,7 @@ module _ (bits side : List ℕ) (width : ℕ → ℕ) (look : ℕ → Val) (i : 
   node-fits Unknown g r v = absurd (r .follows)
 
 module _ (bits side g ws : List ℕ) (I : Interpretation) (formed : WellFormed Source (length bits) side g ws)
-    (clean : (k : ℕ) → getD bits k 0 < 2) (kind : OfKind I g) where
+    (bit : (k : ℕ) → getD bits k 0 < 2) (kind : OfKind I g) where
   -- every row's value has the row's width and lies below 2 ^ width
   pub source-formed : (i : ℕ) → i < rowCount Source g → (wid (sourceValue g bits side I i) ≡ getD ws i 0) × Fit (sourceValue g bits side I i)
   source-formed = strong P step
@@ -87,7 +91,7 @@ module _ (bits side g ws : List ℕ) (I : Interpretation) (formed : WellFormed S
           rw (build-at f (val 0 0) n i h)
           (node-fits bits side (λ a. getD ws a 0) (λ a. getD (sourceValues g bits side I i) a (val 0 0)) i
           (λ a l. ap wid (sym (stay a l)) ∙ ih a l (omega arith) .0)
-          (λ a. fits a (decLt a i)) clean I (kind .cells-fit) (kind .results-fit)
+          (λ a. fits a (decLt a i)) bit I (kind .cells-fit) (kind .results-fit)
           (nodeOf (rowAt Source g i)) (node-good (rowAt Source g i)) (formed i h) (λ w q. kind .variables-fit i w h q))
         where
           stay : (a : ℕ) → a < i → sourceValue g bits side I a ≡ getD (sourceValues g bits side I i) a (val 0 0)
@@ -98,3 +102,10 @@ module _ (bits side g ws : List ℕ) (I : Interpretation) (formed : WellFormed S
           fits a (no l) =
               let past : length (sourceValues g bits side I i) ≤ a = rw (build-length f i) (omega arith) in
               rw (List·getD-eq-default (sourceValues g bits side I i) (val 0 0) past) (omega arith)
+
+-- the same of a source that passes the tests of its bits and its form, with the widths that it then has
+pub source-fits : (bits side g : List ℕ) (I : Interpretation) → length bits ≤ badBit bits → rowCount Source g ≤ illRow Source (length bits) side g
+    → OfKind I g → (i : ℕ) → i < rowCount Source g
+    → (wid (sourceValue g bits side I i) ≡ getD (widths Source (length bits) side g) i 0) × Fit (sourceValue g bits side I i)
+source-fits bits side g I b r kind =
+    source-formed bits side g (widths Source (length bits) side g) I (well-formed Source (length bits) side g r) (clean bits b) kind
