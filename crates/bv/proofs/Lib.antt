@@ -1,3 +1,4 @@
 pub mod Word
 pub mod Fits
+pub mod Smtlib
 pub mod Examples

@@ -1,1 +1,5 @@
+pub mod Values
+pub mod Fits
+pub mod Named
+pub mod Truth
 pub mod Examples

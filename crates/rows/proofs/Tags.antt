@@ -1,14 +1,33 @@
--- What a decoded node says of its tag. Assumes nothing.
+-- Tags by their groups, and what a decoded node says of its tag. Assumes nothing.
 use Prim.Native.Nat.{ℕ}
 use mathlib.Core.Path.{_≡_, refl}
 use mathlib.Core.Bool.{Bool, true, false, cond}
 use mathlib.Core.List.{List}
-use borrow.Author.Tests.{ltb-true}
+use borrow.Author.Tests.{eqb-true, ltb-true}
 use lib.Dec.{eqb, ltb}
 use lib.ListN.{getD}
 use Rattle.rows.specs.declared.Node.the-variants.{Var, Const, Un, Bin, Extract, Extend, Ite, Select, Call, Unknown}
-use Rattle.rows.specs.Tags.{tVar, tConst, tExtract, tIte, tSelect, tCall, isUn, isExtend}
+use Rattle.rows.specs.Tags.{tVar, tConst, tExtract, tZeroExt, tSignExt, tIte, tNot, tBvNot, tNeg, tSelect, tCall, isUn, isExtend}
 use Rattle.rows.specs.Node.{nodeFrom, nodeOf, TagGood}
+
+-- one of two, where the test of either passes
+pub one-of : (P : ℕ → Type 0) (t a b : ℕ) → P a → P b → cond (eqb t a) true (eqb t b) ≡ true → P t
+one-of P t a b x y e = go (eqb t a) refl e
+  where
+    go : (c : Bool) → eqb t a ≡ c → cond c true (eqb t b) ≡ true → P t
+    go true q f = rw (eqb-true t a q) x
+    go false q f = rw (eqb-true t b f) y
+
+-- what holds of each tag of one operand holds of them all, and so for the extensions
+pub un-tags : (P : ℕ → Type 0) (t : ℕ) → P tNot → P tBvNot → P tNeg → isUn t ≡ true → P t
+un-tags P t x y z e = go (eqb t tNot) refl e
+  where
+    go : (c : Bool) → eqb t tNot ≡ c → cond c true (cond (eqb t tBvNot) true (eqb t tNeg)) ≡ true → P t
+    go true q f = rw (eqb-true t tNot q) x
+    go false q f = one-of P t tBvNot tNeg y z f
+
+pub extend-tags : (P : ℕ → Type 0) (t : ℕ) → P tZeroExt → P tSignExt → isExtend t ≡ true → P t
+extend-tags P t x y e = one-of P t tZeroExt tSignExt x y e
 
 from-good : (t a b c d : ℕ) → TagGood (nodeFrom t a b c d)
 from-good t a b c d = go _ _ _ _ _ _ _ _ _ refl refl refl refl refl refl refl refl refl

@@ -34,7 +34,7 @@ use Rattle.lowering.specs.Check.{Lowering, sourceRows, targetRows, sourceWidths
 use Rattle.lowering.proofs.Images.{const-row, both-const}
 use Rattle.soundness.proofs.Facts.{S, T, m, Mapped, Formed, SameCore, ReadOf, CallOf, Ends, walkOf, Found, Matched}
 use Rattle.soundness.proofs.Images.{eq-row, ite-row, same-const}
-use Rattle.soundness.proofs.Values.{Pairs, pairs-formed, source-value, source-width}
+use Rattle.meaning.proofs.Values.{Pairs, pairs-formed, source-value, source-width}
 use Rattle.soundness.proofs.Tells.{tv, row-value, row-width, row-formed, eq-number, ite-number, val-ext}
 
 bool-test : (b : Bool) → eqb (ofBool b) 1 ≡ b

@@ -28,7 +28,8 @@ use Rattle.lowering.specs.Check.{Lowering, targetRows, classesOfTables, classes
 use Rattle.lowering.proofs.Classes.{classes-keep-length}
 use Rattle.soundness.proofs.Facts.{S, T, m, Mapped, Formed, walkOf}
 use Rattle.soundness.specs.Passed.{Reached, Passed}
-use Rattle.soundness.proofs.Images.{one-of, row-is}
+use Rattle.rows.proofs.Tags.{one-of}
+use Rattle.soundness.proofs.Images.{row-is}
 use Rattle.soundness.proofs.Marks.{set-holds}
 use Rattle.soundness.proofs.Tables.{tables-length, ReadAt, CallAt, class-from, class-of-read, class-of-call}
 

@@ -24,7 +24,7 @@ use Rattle.lowering.specs.Check.{Lowering, sourceRows, targetRows, classes, off
 use Rattle.soundness.specs.Passed.{Reached}
 use Rattle.soundness.specs.Guards.{endBare, callBare}
 use Rattle.soundness.proofs.Facts.{m}
-use Rattle.soundness.proofs.Images.{one-of}
+use Rattle.rows.proofs.Tags.{one-of}
 use Rattle.soundness.proofs.Tables.{ReadAt, CallAt, read-whole, call-whole, offset-of-read, offset-of-call}
 use Rattle.soundness.proofs.Classes.{kind, read-at, call-at}
 

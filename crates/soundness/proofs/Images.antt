@@ -1,7 +1,7 @@
 -- Laws of rows: what a row that passes a test says. Assumes nothing.
 use Prim.Native.Nat.{ℕ, _<_}
 use mathlib.Core.Path.{_≡_, refl, _∙_}
-use mathlib.Core.Bool.{Bool, true, false, cond}
+use mathlib.Core.Bool.{true, false}
 use mathlib.Core.List.{List}
 use native.Mathlib.Omega.{arith}
 use borrow.Author.Tests.{eqb-true, ltb-true, lt-ltb, ne-eqb}
@@ -14,31 +14,13 @@ use Rattle.rows.specs.declared.Graph.the-variants.{Target}
 use Rattle.rows.specs.declared.Node.{Node}
 use Rattle.rows.specs.declared.Node.the-variants.{Var, Const, Un, Bin, Extract, Extend, Ite, Select, Call, Unknown}
 use Rattle.rows.specs.Row.{rowCount, rowAt}
-use Rattle.rows.specs.Tags.{tVar, tZeroExt, tSignExt, tIte, tEq, tNot, tBoolAnd, tBoolOr, tBvNot, tNeg, tSelect, tCall, isUn, isExtend}
+use Rattle.rows.specs.Tags.{tVar, tConst, tIte, tEq, tNot, tBoolAnd, tBoolOr, tSelect, tCall}
+use Rattle.rows.proofs.Tags.{un-tags, extend-tags}
 use Rattle.rows.specs.Node.{nodeFrom, nodeOf, rowEq, TagGood, BinTag}
 use Rattle.value.specs.Operate.{parameters, constNumber}
 use Rattle.lowering.specs.Images.{mapNode, rowOf, rowIs, tagAt, fieldAt, sameConst}
 use Rattle.lowering.specs.Matching.{isEq, isLevel}
 use Rattle.lowering.proofs.Images.{const-row, both-const}
-
--- one of two, where the test of either passes
-pub one-of : (P : ℕ → Type 0) (t a b : ℕ) → P a → P b → cond (eqb t a) true (eqb t b) ≡ true → P t
-one-of P t a b x y e = go (eqb t a) refl e
-  where
-    go : (c : Bool) → eqb t a ≡ c → cond c true (eqb t b) ≡ true → P t
-    go true q f = rw (eqb-true t a q) x
-    go false q f = rw (eqb-true t b f) y
-
--- what holds of each tag of one operand holds of them all, and so for the extensions
-pub un-tags : (P : ℕ → Type 0) (t : ℕ) → P tNot → P tBvNot → P tNeg → isUn t ≡ true → P t
-un-tags P t x y z e = go (eqb t tNot) refl e
-  where
-    go : (c : Bool) → eqb t tNot ≡ c → cond c true (cond (eqb t tBvNot) true (eqb t tNeg)) ≡ true → P t
-    go true q f = rw (eqb-true t tNot q) x
-    go false q f = one-of P t tBvNot tNeg y z f
-
-pub extend-tags : (P : ℕ → Type 0) (t : ℕ) → P tZeroExt → P tSignExt → isExtend t ≡ true → P t
-extend-tags P t x y e = one-of P t tZeroExt tSignExt x y e
 
 -- a node is read off its words again
 of-words : (node : Node) → TagGood node → nodeOf (rowOf node) ≡ node

@@ -9,7 +9,6 @@ pub mod Owners
 pub mod Pairs
 pub mod Formed
 pub mod RootFacts
-pub mod Values
 pub mod Tells
 pub mod Agree
 pub mod Forward

@@ -32,7 +32,7 @@ use Rattle.lowering.specs.Check.{Lowering, sourceRows, targetRows, sourceWidths
 use Rattle.soundness.proofs.Facts.{S, T, m, Mapped, Formed, SameCore, Ends, walkOf, Found, Owner, by-var, by-read, by-call, Owns, Matched}
 use Rattle.soundness.specs.Passed.{Passed}
 use Rattle.soundness.proofs.Images.{eq-row, ite-row}
-use Rattle.soundness.proofs.Values.{Pairs, pairs-formed}
+use Rattle.meaning.proofs.Values.{Pairs, pairs-formed}
 use Rattle.soundness.proofs.Classes.{usedEnd, usedAt, used, Uses, Used}
 use Rattle.soundness.proofs.Owners.{SentBefore, Behind, OwnedBy, use-owner, use-behind, live}
 

@@ -26,7 +26,7 @@ use Rattle.lowering.specs.Roots.{allEqual, congruent}
 use Rattle.lowering.specs.Check.{Lowering, targetRows, targetWidths}
 use Rattle.soundness.proofs.Facts.{T, Formed}
 use Rattle.soundness.proofs.Images.{eq-row, and-row, or-row, not-row}
-use Rattle.soundness.proofs.Values.{target-value}
+use Rattle.meaning.proofs.Values.{target-value}
 
 -- the number n is 1 where P holds and 0 where it does not
 pub record Tells (n : ℕ) (P : Type 0) : Type 0 where

@@ -18,7 +18,7 @@ use Rattle.rows.specs.declared.Node.the-variants.{Var, Const, Un, Bin, Extract,
 use Rattle.rows.specs.Row.{rowCount, rowAt}
 use Rattle.rows.specs.Tags.{tVar, tConst, tExtract, tNot, isUn, isExtend}
 use Rattle.rows.specs.Node.{nodeOf, operands, TagGood}
-use Rattle.rows.proofs.Tags.{node-good}
+use Rattle.rows.proofs.Tags.{extend-tags, node-good}
 use Rattle.wf.specs.Rule.{same, unWidth}
 use Rattle.wf.specs.Promise.{RowFormed, WellFormed}
 use Rattle.value.specs.Val.{Val, val, wid, arg, Fit}
@@ -31,11 +31,7 @@ pub apart : (p : ℕ → Bool) (k t : ℕ) → p k ≡ false → p t ≡ true �
 apart p k t f h = ne-eqb t k (λ e. let g : p k ≡ true = rw e at h in let z : _≡_ {A = ℕ} 0 1 = cc in omega arith)
 
 extend-no-un : (t : ℕ) → isExtend t ≡ true → isUn t ≡ false
-extend-no-un t h = go (eqb t 16) refl h
-  where
-    go : (b : Bool) → eqb t 16 ≡ b → cond b true (eqb t 17) ≡ true → isUn t ≡ false
-    go true e x = rw (eqb-true t 16 e)
-    go false e x = rw (eqb-true t 17 x)
+extend-no-un t = extend-tags (λ k. isUn k ≡ false) t refl refl
 
 un-law : (t a : ℕ) → (t ≡ tNot → a ≡ 1) → unWidth t a ≡ a
 un-law t a h = go (eqb t tNot) refl
@@ -102,7 +98,7 @@ module _ (bits side : List ℕ) (width : ℕ → ℕ) (look : ℕ → Val) (i : 
   var-formed given Unknown g e r v = absurd (omega arith)
 
   -- a row's value, where the operands before it have their widths and fit
-  row-formed : (given : ℕ → ℕ) (node : Node) → ((k : ℕ) → getD bits k 0 < 2) → ((a : ℕ) → Fit (look a)) → TagGood node → tagOf node < 37
+  pub row-formed : (given : ℕ → ℕ) (node : Node) → ((k : ℕ) → getD bits k 0 < 2) → ((a : ℕ) → Fit (look a)) → TagGood node → tagOf node < 37
       → RowFormed (length bits) side width i node → ((w : ℕ) → node ≡ Var w → given i < 2 ^ w)
       → (wid (nodeValue bits given look i node) ≡ width i) × Fit (nodeValue bits given look i node)
   row-formed given node clean fits g c r v = go (eqb (tagOf node) tVar) refl

@@ -14,15 +14,14 @@ use Rattle.rows.specs.declared.Node.the-variants.{Var, Const, Un, Bin, Extract,
 use Rattle.rows.specs.Row.{rowCount, rowAt}
 use Rattle.rows.specs.Tags.{tVar, isUn, isExtend}
 use Rattle.rows.specs.Node.{nodeOf, operands, TagGood}
-use Rattle.rows.proofs.Tags.{node-good}
+use Rattle.rows.proofs.Tags.{un-tags, extend-tags, node-good}
 use Rattle.wf.specs.Rule.{indexWidth, cellWidth}
 use Rattle.wf.specs.Promise.{Below, PairFormed, RowFormed, WellFormed}
 use Rattle.value.specs.Val.{Val, val, wid}
 use Rattle.value.specs.Operate.{tagOf}
 use Rattle.value.specs.Graph.{nodeValue, rowValue, value}
 use Rattle.value.proofs.Formed.{core-width, apart}
-use Rattle.soundness.proofs.Images.{un-tags, extend-tags}
 use Rattle.meaning.specs.Meaning.{Interpretation, stored, sourceNode, sourceRow, sourceValue}
 
 -- k pairs of a side list from s on: index and value are rows below i of these widths
 abbrev pub Pairs : ℕ → ℕ → (ℕ → ℕ) → ℕ → List ℕ → ℕ → ℕ → Type 0
