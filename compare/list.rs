@@ -1,6 +1,6 @@
 //! The fixed list: small cases with the expected outcomes, one a line, for the
-//! program that replays them. Only rules and reference make it; the library is
-//! not asked.
+//! program that replays them, and a few wrong lines at the end. Only rules and
+//! reference make it; the library is not asked.
 
 use std::collections::BTreeSet;
 
@@ -17,6 +17,7 @@ use crate::rules::{Graph, ACCEPTED, SOURCE, TARGET};
 use crate::tags::{CALL, CONCAT, EXTRACT, SELECT, VAR};
 use crate::values::VALUES;
 use crate::widths::{SOURCE_WIDTHS, TARGET_WIDTHS};
+use crate::wrong;
 
 const MAX: u64 = u64::MAX;
 
@@ -119,6 +120,7 @@ pub fn list(seed: u64) -> bool {
     good &= showing_features(&mut random, &mut list);
     good &= showing_edges(&mut random, &mut list);
     good &= list.add_books(&mut random);
+    good &= list.add_wrong();
     list.lines.iter().for_each(|line| println!("{line}"));
     list.complete() && good
 }
@@ -285,6 +287,14 @@ impl List {
         due.all(|answer| answers.contains(&answer))
     }
 
+    /// Adds the wrong lines; false if one of them is missing or not wrong.
+    fn add_wrong(&mut self) -> bool {
+        let wrong = wrong::lines(&self.lines).unwrap_or_default();
+        let good = !wrong.is_empty() && wrong.iter().all(|line| !self.lines.contains(line));
+        self.lines.extend(wrong);
+        good
+    }
+
     /// Adds a line, unless it is there already.
     fn add_line(&mut self, line: String) {
         if !self.lines.contains(&line) {
@@ -298,7 +308,7 @@ impl List {
         let bytes: usize = self.lines.iter().map(|line| line.len() + 1).sum();
         let words = self.lines.iter().map(|line| line.split(' ').count()).max();
         let tags: usize = OPERATIONS.iter().map(|(of, _)| of.tags()).sum();
-        eprintln!("{} cases, {bytes} bytes", self.lines.len());
+        eprintln!("{} lines, {bytes} bytes", self.lines.len());
         bytes < BYTES
             && words < Some(WORDS)
             && self.taken.len() == tags

@@ -53,6 +53,7 @@ mod tiny;
 mod values;
 mod wellformed;
 mod widths;
+mod wrong;
 
 use std::process::ExitCode;
 

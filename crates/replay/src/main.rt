@@ -1,9 +1,5 @@
 // Replays a fixed list of cases from standard input against the library.
 // Prints the first disagreeing lines, the number of cases and the number of disagreements.
-mod case;
-mod run;
-mod text;
-
 ghost use Prim.Native.Nat.{_+_, _≤_, _<_};
 ghost use lib.ListN.{length};
 use libc::STDIN_FILENO;
@@ -24,9 +20,9 @@ fn print_number(label: &[u8], n: usize) {
 
 // A malformed line has no words, and so does not agree.
 fn line_agrees(line: &[u8]) -> bool {
-    let mut words = [0u64; run::ROOM];
+    let mut words = [0u64; agreement::ROOM];
     let n = text::read_line(line, &mut words);
-    run::agrees(&words[..n])
+    agreement::agrees(&words[..n])
 }
 
 // Names a disagreeing line, if it is among the first ten.

@@ -1,0 +1,74 @@
+-- An outcome on copies is the outcome on the case's lists, and an outcome whose parts are the expected ones is the expected one. Assumes nothing.
+use mathlib.Core.Path.{_≡_, _∙_, sym, ap}
+use mathlib.Core.Bool.{Bool, true, false}
+use mathlib.Core.List.{List}
+use Prim.Native.Nat.{ℕ}
+use Rattle.answers.specs.declared.Words.{Words}
+use Rattle.widths.specs.Widths.{sourceWidths, targetWidths}
+use Rattle.values.specs.Values.{values}
+use Rattle.lowering.specs.Check.{Lowering, lowering, check}
+use Rattle.gilfrunt.specs.Exports.{Result, result, resultOf, Results, results, resultsOf, Checked, checked, checkedOf}
+use Rattle.cases.specs.Case.{given}
+use Rattle.agreement.specs.Agrees.{widthsOf, checkOf}
+
+-- Part by part.
+pub same-result : {R : Result} {a A : Words} {l L : List ℕ} → result a l ≡ R → a ≡ A → l ≡ L → R ≡ result A L
+same-result e p q = sym e ∙ rw (p, q)
+
+pub same-results : {R : Results} {a A : Words} {k K l L : List ℕ} → results a k l ≡ R → a ≡ A → (k ≡ K) × (l ≡ L) → R ≡ results A K L
+same-results e p q = sym e ∙ rw (p, q .0, q .1)
+
+pub same-checked : {R : Checked} {a A : Words} {k K l L m M n N : List ℕ}
+    → checked a k l m n ≡ R → a ≡ A → (k ≡ K) × (l ≡ L) → (m ≡ M) × (n ≡ N) → R ≡ checked A K L M N
+same-checked e p q r = sym e ∙ rw (p, q .0, q .1, r .0, r .1)
+
+-- Widths: the rows and the side list are the case's; so are copies of the bits and of the lent list.
+module _ (w bits lent : List ℕ) {R : Result} {source : Bool} {rows : List ℕ} (p : rows ≡ given w 0) where
+  pub source-call : {side : List ℕ} → side ≡ given w 2 → source ≡ true
+      → R ≡ resultOf (sourceWidths rows bits side lent) → R ≡ resultOf (widthsOf source w bits lent)
+  source-call {side} q s e =
+      e ∙ ap (λ (x : List ℕ). resultOf (sourceWidths x bits side lent)) p ∙ ap (λ (x : List ℕ). resultOf (sourceWidths (given w 0) bits x lent)) q
+      ∙ ap (λ (b : Bool). resultOf (widthsOf b w bits lent)) (sym s)
+
+  pub target-call : source ≡ false → R ≡ resultOf (targetWidths rows bits lent) → R ≡ resultOf (widthsOf source w bits lent)
+  target-call s e =
+      e ∙ ap (λ (x : List ℕ). resultOf (targetWidths x bits lent)) p ∙ ap (λ (b : Bool). resultOf (widthsOf b w bits lent)) (sym s)
+
+pub widths-copied : (source : Bool) (w : List ℕ) {R : Result} {b B l L : List ℕ} → b ≡ B → l ≡ L
+    → resultOf (widthsOf source w b l) ≡ R → resultOf (widthsOf source w B L) ≡ R
+widths-copied source w {R} {b} {B} {l} {L} p q e =
+    ap (λ (x : List ℕ). resultOf (widthsOf source w x L)) (sym p) ∙ ap (λ (x : List ℕ). resultOf (widthsOf source w b x)) (sym q) ∙ e
+
+-- Values: the rows and the given words are the case's; so are copies of the bits and of the lent lists.
+pub values-call : (w b k l : List ℕ) {R : Results} {t g : List ℕ} → t ≡ given w 0 → g ≡ given w 2
+    → resultsOf (values t b g k l) ≡ R → resultsOf (values (given w 0) b (given w 2) k l) ≡ R
+values-call w b k l {R} {t} {g} p q e =
+    ap (λ (x : List ℕ). resultsOf (values x b (given w 2) k l)) (sym p) ∙ ap (λ (x : List ℕ). resultsOf (values t b x k l)) (sym q) ∙ e
+
+pub values-copied : (t g : List ℕ) {R : Results} {b B k K l L : List ℕ} → b ≡ B → k ≡ K → l ≡ L
+    → resultsOf (values t b g k l) ≡ R → resultsOf (values t B g K L) ≡ R
+values-copied t g {R} {b} {B} {k} {K} {l} {L} p q r e =
+    ap (λ (x : List ℕ). resultsOf (values t x g K L)) (sym p) ∙ ap (λ (x : List ℕ). resultsOf (values t b g x L)) (sym q)
+    ∙ ap (λ (x : List ℕ). resultsOf (values t b g k x)) (sym r) ∙ e
+
+-- Check: the lowering's lists are the case's; so are copies of the bits and of the lent lists.
+module _ (w ebits tbits : List ℕ) {R : Checked} where
+  pub check-call : (k l m n : List ℕ) {a b c d f g h i j : List ℕ} → a ≡ given w 0 → b ≡ given w 2 → c ≡ given w 3 → d ≡ given w 4
+      → f ≡ given w 5 → g ≡ given w 6 → h ≡ given w 7 → i ≡ given w 8 → j ≡ given w 10
+      → checkedOf (check (lowering a ebits b c d f g h i tbits j) k l m n) ≡ R → checkedOf (checkOf w ebits tbits k l m n) ≡ R
+  check-call k l m n {a} {b} {c} {d} {f} {g} {h} {i} {j} p0 p2 p3 p4 p5 p6 p7 p8 p10 e =
+      let same : lowering a ebits b c d f g h i tbits j
+      ≡ lowering (given w 0) ebits (given w 2) (given w 3) (given w 4) (given w 5) (given w 6) (given w 7) (given w 8) tbits (given w 10) =
+      rw (p0, p2, p3, p4, p5, p6, p7, p8, p10) in
+      ap (λ (x : Lowering). checkedOf (check x k l m n)) (sym same) ∙ e
+
+  pub check-lent : {k K l L m M n N : List ℕ} → k ≡ K → l ≡ L → m ≡ M → n ≡ N
+      → checkedOf (checkOf w ebits tbits k l m n) ≡ R → checkedOf (checkOf w ebits tbits K L M N) ≡ R
+  check-lent {k} {K} {l} {L} {m} {M} {n} {N} p q r s e =
+      ap (λ (x : List ℕ). checkedOf (checkOf w ebits tbits x L M N)) (sym p) ∙ ap (λ (x : List ℕ). checkedOf (checkOf w ebits tbits k x M N)) (sym q)
+      ∙ ap (λ (x : List ℕ). checkedOf (checkOf w ebits tbits k l x N)) (sym r) ∙ ap (λ (x : List ℕ). checkedOf (checkOf w ebits tbits k l m x)) (sym s) ∙ e
+
+pub check-bits : (w k l m n : List ℕ) {R : Checked} {b B t T : List ℕ} → b ≡ B → t ≡ T
+    → checkedOf (checkOf w b t k l m n) ≡ R → checkedOf (checkOf w B T k l m n) ≡ R
+check-bits w k l m n {R} {b} {B} {t} {T} p q e =
+    ap (λ (x : List ℕ). checkedOf (checkOf w x T k l m n)) (sym p) ∙ ap (λ (x : List ℕ). checkedOf (checkOf w b x k l m n)) (sym q) ∙ e

@@ -1,0 +1,59 @@
+-- `agreement::same_values` meets its contract: the answer and the lists, each by its test. Assumes nothing.
+use mathlib.Core.Bool.{false≢true}
+use borrow.Author.Tests.{not-false}
+use Rattle.agreement.proofs.Same.{same-results, values-call}
+use borrow.Author.Needs.{needs}
+use Rattle.agreement.proofs.same_values.Statement.{statement}
+use Rattle.agreement.proofs.same_values.Tie as tie
+
+given-requires : tie.Need-given-requires
+given-requires c κs = search needs
+
+given-requires-2 : tie.Need-given-requires-2
+given-requires-2 c κs = search needs
+
+gilfrunt-values-requires : tie.Need-gilfrunt-values-requires
+gilfrunt-values-requires c κs = search needs
+
+same-answer-requires : tie.Need-same-answer-requires
+same-answer-requires c κs = search needs
+
+same-length : tie.Need-same-length
+same-length c = search needs
+
+same-length-2 : tie.Need-same-length-2
+same-length-2 c = search needs
+
+returns : tie.Need-returns
+returns c = λ e. absurd (false≢true e)
+
+same-both-requires : tie.Need-same-both-requires
+same-both-requires c κs = search needs
+
+same-length-3 : tie.Need-same-length-3
+same-length-3 c = search needs
+
+same-length-4 : tie.Need-same-length-4
+same-length-4 c = search needs
+
+returns-2 : tie.Need-returns-2
+returns-2 c =
+    let a = c .before .before .before .before .before .before .before .before .before .before .before .before .before .before .before .before .before .before .args in
+    λ e. values-call (a .words .now) (a .bits .now) (a .widths .now) (a .numbers .now) (c .before .before .before .before .before .before .before .before .before .before .before .before .before .given .ensures .0) (c .before .before .before .before .before .before .before .before .before .before .before .before .given2 .ensures .0)
+    (same-results (c .before .before .before .before .before .before .before .before .before .gilfrunt-values .ensures) (c .before .before .before .before .same-answer .ensures .0 (not-false _ (c .before .before .before .if1 .left))) (c .same-both .ensures e))
+
+pub same-values-spec : {M : Type 1} → statement M
+same-values-spec =
+    tie.close
+    (tie.spec
+    given-requires
+    given-requires-2
+    gilfrunt-values-requires
+    same-answer-requires
+    same-length
+    same-length-2
+    returns
+    same-both-requires
+    same-length-3
+    same-length-4
+    returns-2)

@@ -1,0 +1,73 @@
+-- When the library's definitions answer a case as it expects: the number, place and detail, and every lent list. Assumes nothing.
+use Prim.Native.Nat.{ℕ, _-_}
+use mathlib.Core.Path.{_≡_}
+use mathlib.Core.Bool.{Bool, true, false, cond}
+use mathlib.Core.List.{List}
+use lib.ListN.{length, getD}
+use Rattle.answers.specs.Answer.{wordsOf}
+use Rattle.widths.specs.Widths.{Out, sourceWidths, targetWidths, rootsAnswer}
+use Rattle.values.specs.Values.{values}
+use Rattle.lowering.specs.Check.{Outcome, lowering, check}
+use Rattle.book.specs.Book.{sectionAnswer, section}
+use Rattle.judge.specs.Judge.{verdict}
+use Rattle.gilfrunt.specs.Exports.{result, resultOf, results, resultsOf, checked, checkedOf}
+use Rattle.cases.specs.Case.{given, answer, expected, hasShape}
+
+-- a line has at most so many words
+abbrev pub room : ℕ
+room = 1024
+
+-- widths of a source or a target on a case's rows and side list
+abbrev pub widthsOf : Bool → List ℕ → List ℕ → List ℕ → Out
+widthsOf source w bits lent = cond source (sourceWidths (given w 0) bits (given w 2) lent) (targetWidths (given w 0) bits lent)
+
+-- the bits are list 1, the lent list is the last
+abbrev pub WidthsAgree : Bool → ℕ → List ℕ → Type 0
+WidthsAgree source lists w =
+    (hasShape w lists 1 ≡ true)
+    × (resultOf (widthsOf source w (given w 1) (given w (lists - 1))) ≡ result (answer w) (expected w 0))
+
+abbrev pub RootsAgree : List ℕ → Type 0
+RootsAgree w = (hasShape w 2 0 ≡ true) × (wordsOf (rootsAnswer (given w 0) (given w 1)) ≡ answer w)
+
+-- the bits are list 1, the lent lists are 3 and 4
+abbrev pub ValuesAgree : List ℕ → Type 0
+ValuesAgree w =
+    (hasShape w 5 2 ≡ true)
+    × (resultsOf (values (given w 0) (given w 1) (given w 2) (given w 3) (given w 4)) ≡ results (answer w) (expected w 0) (expected w 1))
+
+-- Check on a case's lists, with these bits and lent lists
+abbrev pub checkOf : List ℕ → List ℕ → List ℕ → List ℕ → List ℕ → List ℕ → List ℕ → Outcome
+checkOf w ebits tbits ws0 ws1 classes entries =
+    check
+    (lowering (given w 0) ebits (given w 2) (given w 3) (given w 4) (given w 5) (given w 6) (given w 7) (given w 8) tbits (given w 10))
+    ws0 ws1 classes entries
+
+-- the bits are lists 1 and 9, the lent lists are 11 to 14
+abbrev pub CheckAgrees : List ℕ → Type 0
+CheckAgrees w =
+    (hasShape w 15 4 ≡ true)
+    × (checkedOf (checkOf w (given w 1) (given w 9) (given w 11) (given w 12) (given w 13) (given w 14))
+    ≡ checked (answer w) (expected w 0) (expected w 1) (expected w 2) (expected w 3))
+
+-- the book is list 0
+abbrev pub BookAgrees : List ℕ → Type 0
+BookAgrees w = (hasShape w 1 0 ≡ true) × (wordsOf (verdict (given w 0)) ≡ answer w)
+
+-- section n of a book is as expected
+abbrev pub SameSection : List ℕ → List ℕ → ℕ → Type 0
+SameSection w book n = (wordsOf (sectionAnswer book n) ≡ answer w) × (section book n ≡ expected w 0)
+
+-- the book is list 0, the section's number the one word of list 1
+abbrev pub SectionAgrees : List ℕ → Type 0
+SectionAgrees w = (hasShape w 2 1 ≡ true) × (length (given w 1) ≡ 1) × SameSection w (given w 0) (getD (given w 1) 0 0)
+
+-- by the operation, a case's first word
+pub data Agrees (w : List ℕ) : Type 0 where
+  source-widths : getD w 0 0 ≡ 1 → WidthsAgree true 4 w → Agrees w
+  target-widths : getD w 0 0 ≡ 2 → WidthsAgree false 3 w → Agrees w
+  roots : getD w 0 0 ≡ 3 → RootsAgree w → Agrees w
+  value-list : getD w 0 0 ≡ 4 → ValuesAgree w → Agrees w
+  lowered : getD w 0 0 ≡ 5 → CheckAgrees w → Agrees w
+  book : getD w 0 0 ≡ 6 → BookAgrees w → Agrees w
+  book-section : getD w 0 0 ≡ 7 → SectionAgrees w → Agrees w

@@ -1,0 +1,3 @@
+-- The proofs' own laws.
+pub mod Case
+pub mod Copy

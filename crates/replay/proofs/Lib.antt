@@ -1,2 +1,0 @@
--- The proofs' own laws.
-pub mod Copy
