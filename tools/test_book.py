@@ -4,6 +4,8 @@
 import glob
 import os
 import random
+import resource
+import signal
 import subprocess
 import sys
 import tempfile
@@ -421,6 +423,36 @@ class Samples(unittest.TestCase):
             with self.subTest(sample=stem(path)):
                 line, _ = command.ask(VERDICT, sample(stem(path), ".book"))
                 self.assertEqual(line.encode(), sample(stem(path), ".line"))
+
+
+def with_stack(kibibytes):
+    """Limits the stack of a program that is started."""
+    return lambda: resource.setrlimit(resource.RLIMIT_STACK, (kibibytes * 1024,) * 2)
+
+
+@unittest.skipUnless(os.path.exists(VERDICT), "rt check verdict builds target/bin/verdict")
+class Failures(unittest.TestCase):
+    """What docs/BOOKS.md says of verdict when things fail around it."""
+
+    def verdict(self, **options):
+        run = subprocess.run([VERDICT], stderr=subprocess.PIPE, **options)
+        return run.returncode, run.stdout
+
+    def test_read(self):
+        for descriptor in (os.open(TOP, os.O_RDONLY), os.open(os.devnull, os.O_WRONLY)):
+            self.addCleanup(os.close, descriptor)
+            self.assertEqual(self.verdict(stdin=descriptor, stdout=subprocess.PIPE),
+                             (0, b"refused 20 0 0\n"))
+
+    @unittest.skipUnless(os.path.exists("/dev/full"), "no /dev/full")
+    def test_write(self):
+        with open("/dev/full", "wb") as full:
+            self.assertEqual(self.verdict(input=sample("reply", ".book"), stdout=full)[0], 0)
+
+    def test_stack(self):
+        for kibibytes, outcome in ((128, (-signal.SIGSEGV, b"")), (512, (0, b"accepted\n"))):
+            self.assertEqual(self.verdict(input=sample("reply", ".book"), stdout=subprocess.PIPE,
+                                          preexec_fn=with_stack(kibibytes)), outcome)
 
 
 if __name__ == "__main__":
