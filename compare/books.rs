@@ -17,6 +17,7 @@ use crate::operation::Operation;
 use crate::ours::Answer;
 use crate::random::Random;
 use crate::rules::ACCEPTED;
+use crate::tally::nothing_missing;
 
 /// How many of a hundred random books go in piece by piece.
 const IN_PIECES: u64 = 10;
@@ -58,7 +59,7 @@ pub fn books(seed: u64, cases: u64, program: &str) -> bool {
             let which = format!("random case {case} of seed {seed}");
             run.judge(&input, pieces.then_some(&mut random), &which)
         });
-    good && run.complete()
+    good && run.complete(cases)
 }
 
 impl Run<'_> {
@@ -96,8 +97,8 @@ impl Run<'_> {
         false
     }
 
-    /// Prints what came; false if an answer never did.
-    fn complete(&self) -> bool {
+    /// Prints what came; false if an answer never did in so many random cases.
+    fn complete(&self, cases: u64) -> bool {
         for (label, count) in &self.came {
             println!("  {label}: {count:8}");
         }
@@ -110,10 +111,7 @@ impl Run<'_> {
             .into_iter()
             .filter(|label| !self.came.contains_key(label))
             .collect();
-        missing
-            .iter()
-            .for_each(|label| println!("{label} never came"));
-        missing.is_empty()
+        nothing_missing(cases, &missing)
     }
 }
 

@@ -43,7 +43,7 @@ pub fn compare(seed: u64, cases: u64, only: Option<&'static dyn Operation>) -> b
             format!("random case {case} of seed {seed}")
         })
     });
-    good && run.complete()
+    good && run.complete(cases)
 }
 
 fn choose(random: &mut Random, from: &[(&'static dyn Operation, u64)]) -> &'static dyn Operation {
@@ -119,9 +119,9 @@ impl Run {
         self.judge(operation, lists, || which.to_string())
     }
 
-    /// Prints what came; false if something never did.
-    pub fn complete(&self) -> bool {
-        self.tally.complete()
+    /// Prints what came; false if something never did in so many random cases.
+    pub fn complete(&self, cases: u64) -> bool {
+        self.tally.complete(cases)
     }
 }
 

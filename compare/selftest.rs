@@ -24,5 +24,5 @@ pub fn selftest(seed: u64, cases: u64) -> bool {
                     which.clone()
                 })
         })
-        && run.complete()
+        && run.complete(cases)
 }

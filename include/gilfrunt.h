@@ -1,10 +1,26 @@
-/* The functions of libgilfrunt.a.
+/* The functions of libgilfrunt.a, C99 or C++. docs/REFERENCE.md says what rows,
+ * tags, tables, widths and books are; docs/ANSWERS.md has the answers in one table.
  *
  * A word is an unsigned 64-bit number. A list is a pointer and the number of its
  * elements; pointers are aligned and not null, also for an empty list, and no
- * other list overlaps one that is written. Rows, tags and the rules for widths
- * are those of the scope document: a source row is five words with a tag of 0 to
- * 38, a target row four words with a tag of 0 to 36, a bit is one byte.
+ * other list overlaps one that is written. Nothing else is asked of the caller: each
+ * function answers on every input and keeps nothing from one call to the next.
+ *
+ * A list that a function writes is lent to it. It needs so many words, and may have
+ * more:
+ *
+ *   gilfrunt_source_widths  widths                           source_len / 5
+ *   gilfrunt_target_widths  widths                           target_len / 4
+ *   gilfrunt_values         widths, values                   target_len / 4
+ *   gilfrunt_check          source_widths                    source_len / 5
+ *                           target_widths, classes, entries  target_len / 4
+ *   gilfrunt_judge          source_widths                    section 1's bytes / 40
+ *                           target_widths, classes, entries  section 9's bytes / 32
+ *                           words                            bytes of all sections
+ *                                                            but 2 and 10, / 8
+ *
+ * For any book, book_len / 32 words for each of gilfrunt_judge's first four lists and
+ * book_len / 8 for the fifth are enough.
  */
 #ifndef GILFRUNT_H
 #define GILFRUNT_H
@@ -15,6 +31,103 @@
 #ifdef __cplusplus
 extern "C" {
 #endif
+
+/* In a map: no image. */
+#define GILFRUNT_MAX UINT64_MAX
+
+/* Words of a row, words of an entry, bytes of a book's table of contents. */
+#define GILFRUNT_SOURCE_ROW 5
+#define GILFRUNT_TARGET_ROW 4
+#define GILFRUNT_READ_ENTRY 3
+#define GILFRUNT_CALL_ENTRY 4
+#define GILFRUNT_CONTENTS 176
+
+/* A row's first word. Select and Call stand in sources only. */
+enum gilfrunt_tag {
+    GILFRUNT_TAG_VAR = 0,
+    GILFRUNT_TAG_CONST = 1,
+    GILFRUNT_TAG_ADD = 2,
+    GILFRUNT_TAG_SUB = 3,
+    GILFRUNT_TAG_MUL = 4,
+    GILFRUNT_TAG_UDIV = 5,
+    GILFRUNT_TAG_UREM = 6,
+    GILFRUNT_TAG_AND = 7,
+    GILFRUNT_TAG_OR = 8,
+    GILFRUNT_TAG_XOR = 9,
+    GILFRUNT_TAG_SHL = 10,
+    GILFRUNT_TAG_LSHR = 11,
+    GILFRUNT_TAG_ASHR = 12,
+    GILFRUNT_TAG_ROTR = 13,
+    GILFRUNT_TAG_EXTRACT = 14,
+    GILFRUNT_TAG_CONCAT = 15,
+    GILFRUNT_TAG_ZERO_EXT = 16,
+    GILFRUNT_TAG_SIGN_EXT = 17,
+    GILFRUNT_TAG_ITE = 18,
+    GILFRUNT_TAG_EQ = 19,
+    GILFRUNT_TAG_NE = 20,
+    GILFRUNT_TAG_ULT = 21,
+    GILFRUNT_TAG_ULE = 22,
+    GILFRUNT_TAG_UGT = 23,
+    GILFRUNT_TAG_UGE = 24,
+    GILFRUNT_TAG_SLT = 25,
+    GILFRUNT_TAG_SLE = 26,
+    GILFRUNT_TAG_SGT = 27,
+    GILFRUNT_TAG_SGE = 28,
+    GILFRUNT_TAG_NOT = 29,
+    GILFRUNT_TAG_BOOL_AND = 30,
+    GILFRUNT_TAG_BOOL_OR = 31,
+    GILFRUNT_TAG_BV_NOT = 32,
+    GILFRUNT_TAG_NEG = 33,
+    GILFRUNT_TAG_ROTL = 34,
+    GILFRUNT_TAG_SDIV = 35,
+    GILFRUNT_TAG_SREM = 36,
+    GILFRUNT_TAG_SELECT = 37,
+    GILFRUNT_TAG_CALL = 38
+};
+
+/* An answer's number. */
+enum gilfrunt_number {
+    GILFRUNT_ACCEPTED = 0,
+    GILFRUNT_EXT = 1,
+    GILFRUNT_CORE = 2,
+    GILFRUNT_MAP_LENGTH = 3,
+    GILFRUNT_MAP_OUT_OF_RANGE = 4,
+    GILFRUNT_READ_TABLE = 5,
+    GILFRUNT_CALL_TABLE = 6,
+    GILFRUNT_VAR_CLASS = 7,
+    GILFRUNT_CONST_MISMATCH = 8,
+    GILFRUNT_NODE_MISMATCH = 9,
+    GILFRUNT_CHAIN_MISMATCH = 10,
+    GILFRUNT_CALL_MISMATCH = 11,
+    GILFRUNT_ROOT_MISMATCH = 12,
+    GILFRUNT_CONGRUENCE_MISMATCH = 13,
+    GILFRUNT_DEAD_ENTRY = 14,
+    GILFRUNT_ROW_COUNT = 15,
+    GILFRUNT_BAD_ROW = 16,
+    GILFRUNT_BAD_BIT = 17,
+    GILFRUNT_WORK_SHORT = 18,
+    GILFRUNT_BAD_ROOT = 19,
+    GILFRUNT_BOOK_SHAPE = 20,
+    GILFRUNT_TOO_WIDE = 21,
+    GILFRUNT_VALUE_COUNT = 22,
+    GILFRUNT_VALUE_RANGE = 23,
+    GILFRUNT_NO_SECTION = 24
+};
+
+/* The sections of a book. */
+enum gilfrunt_section_number {
+    GILFRUNT_SECTION_SOURCE = 1,
+    GILFRUNT_SECTION_SOURCE_BITS = 2,
+    GILFRUNT_SECTION_PAIRS_AND_ARGUMENTS = 3,
+    GILFRUNT_SECTION_SOURCE_ROOTS = 4,
+    GILFRUNT_SECTION_MAP = 5,
+    GILFRUNT_SECTION_READS = 6,
+    GILFRUNT_SECTION_CALLS = 7,
+    GILFRUNT_SECTION_CALL_ARGUMENTS = 8,
+    GILFRUNT_SECTION_TARGET = 9,
+    GILFRUNT_SECTION_TARGET_BITS = 10,
+    GILFRUNT_SECTION_TARGET_ROOTS = 11
+};
 
 /* Number 0 is acceptance. A place or detail not named below is 0. */
 typedef struct gilfrunt_answer {

@@ -1,8 +1,9 @@
 #!/usr/bin/env python3
-"""Makes books from listings, shows books, explains verdict's answers.
+"""Makes books from listings, shows and draws books, explains verdict's answers.
 
     tools/book.py make LISTING [-o BOOK]
     tools/book.py show BOOK
+    tools/book.py draw BOOK [-o SVG]
     tools/book.py explain BOOK [--verdict PROGRAM]
 
 - stands for standard input. docs/BOOKS.md has the formats of books and listings.
@@ -20,6 +21,7 @@ import re
 import subprocess
 import sys
 
+from draw import draw
 from explain import LIMIT, explain
 from graph import MAX
 from listing import BadListing, decode, listing, parse
@@ -41,6 +43,8 @@ def read_bytes(path):
 
 def read_text(path):
     data = read_bytes(path)
+    if b"\0" in data:
+        raise Failure(f"{path}: this looks like a book, not a listing; `show` makes one of it")
     try:
         return data.decode("utf-8-sig")
     except UnicodeDecodeError as error:
@@ -74,6 +78,20 @@ def show(options):
     print("\n".join(explain(data, (20, place, 0))), file=sys.stderr)
     print(listing(bodies), end="", file=sys.stderr)
     return 1
+
+
+def draw_book(options):
+    data = read_bytes(options.book)
+    bodies, place = decode(data)
+    if place is not None:
+        print("\n".join(explain(data, (20, place, 0))), file=sys.stderr)
+        return 1
+    if options.output:
+        with open(options.output, "w", encoding="utf-8") as file:
+            file.write(draw(bodies))
+    else:
+        print(draw(bodies), end="")
+    return 0
 
 
 def ask(program, data):
@@ -112,6 +130,10 @@ def arguments():
     command = commands.add_parser("show", help="a listing of a book")
     command.add_argument("book", metavar="BOOK")
     command.set_defaults(run=show)
+    command = commands.add_parser("draw", help="a picture of a book, as SVG")
+    command.add_argument("book", metavar="BOOK")
+    command.add_argument("-o", dest="output", metavar="SVG")
+    command.set_defaults(run=draw_book)
     command = commands.add_parser("explain", help="what verdict says of a book")
     command.add_argument("book", metavar="BOOK")
     command.add_argument("--verdict", metavar="PROGRAM",

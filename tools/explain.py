@@ -347,6 +347,13 @@ def shape_lines(data, place):
             f"it must start at {end}{whole} and end within the book's {len(data)} bytes"]
 
 
+def text_lines(data):
+    """A hint where text was given for a book, whose contents hold bytes 0."""
+    if not data or b"\0" in data:
+        return []
+    return ["this looks like text; `tools/book.py make` makes a book of a listing"]
+
+
 # Answers
 
 def accepted(book):
@@ -387,7 +394,7 @@ def explain(data, answer):
     """Lines about verdict's answer (number, place, detail) to a book."""
     number, place, detail = answer
     if number == 20:
-        return ["20 BookShape: the bytes are no book"] + shape_lines(data, place)
+        return ["20 BookShape: the bytes are no book"] + shape_lines(data, place) + text_lines(data)
     bodies, bad = decode(data)
     if bad is not None:
         return ["the bytes are no book, yet the answer is not 20"]

@@ -16,6 +16,7 @@ class Shape(NamedTuple):
     """What the rows of some tags have in common."""
 
     form: str  # how the fields are written; each # is one, in order
+    fields: str  # their names
     operands: tuple  # which fields name earlier rows
     width: Callable  # (graph, *fields) to the width, 0 for an ill-formed row
     needs: str  # when a row is well formed
@@ -73,25 +74,25 @@ def call_width(graph, function, width, start, count):
     return width if good else 0
 
 
-VAR = Shape("#", (), lambda graph, width: width, "a width above 0")
-CONST = Shape("bits #+#", (), const_width,
+VAR = Shape("#", "width", (), lambda graph, width: width, "a width above 0")
+CONST = Shape("bits #+#", "start width", (), const_width,
               "a width above 0 and a stretch within the bit list")
-BIN = Shape("# #", (0, 1), same_width, "two earlier rows of one width")
+BIN = Shape("# #", "a b", (0, 1), same_width, "two earlier rows of one width")
 COMPARE = BIN._replace(width=compare_width)
 BOOL = BIN._replace(width=bool_width, needs="two earlier rows of width 1")
 CONCAT = BIN._replace(width=concat_width,
                       needs="two earlier rows, their widths' sum below 2^64")
-EXTRACT = Shape("high # low # of #", (2,), extract_width,
+EXTRACT = Shape("high # low # of #", "high low a", (2,), extract_width,
                 "low <= high < the width of an earlier row")
-EXTEND = Shape("# by #", (0,), extend_width, "an earlier row, a sum below 2^64")
-ITE = Shape("# # #", (0, 1, 2), ite_width,
+EXTEND = Shape("# by #", "a by", (0,), extend_width, "an earlier row, a sum below 2^64")
+ITE = Shape("# # #", "c a b", (0, 1, 2), ite_width,
             "an earlier row of width 1 and two of one width")
-NOT = Shape("#", (0,), bool_width, "an earlier row of width 1")
-UN = Shape("#", (0,), lambda graph, a: graph.width_at(a), "an earlier row")
-SELECT = Shape("array # index # pairs #+#", (1,), select_width,
+NOT = Shape("#", "a", (0,), bool_width, "an earlier row of width 1")
+UN = Shape("#", "a", (0,), lambda graph, a: graph.width_at(a), "an earlier row")
+SELECT = Shape("array # index # pairs #+#", "array index start count", (1,), select_width,
                "an earlier index row of width 32, and pairs of an earlier index "
                "row of width 32 and an earlier value row of width 8")
-CALL = Shape("function # width # arguments #+#", (), call_width,
+CALL = Shape("function # width # arguments #+#", "function width start count", (), call_width,
              "a width above 0 and earlier rows as arguments")
 
 

@@ -40,6 +40,8 @@ SECTIONS = (
             "target rows: images of the source roots, congruence roots"),
 )
 MAP = SECTIONS[4]
+LOOKS = ("a listing is a section's name on a line of its own, with its lines below, as "
+         "`source`, then `0: Var 32`; samples/*.txt are listings, docs/BOOKS.md has the form")
 
 
 class BadListing(Exception):
@@ -115,7 +117,7 @@ def number(text, most=MAX):
     if re.fullmatch(r"-[0-9].*", text):
         raise bad("a negative number:", text)
     if not re.fullmatch(r"0[xX][0-9a-fA-F]+|[0-9]+", text):
-        raise bad("not a number:", text, section_names())
+        raise bad("not a number:", text)
     base = 16 if text[:2] in ("0x", "0X") else 10
     digits = (text[2:] if base == 16 else text).lstrip("0") or "0"
     if len(digits) > 20 or int(digits, base) > most:
@@ -144,7 +146,7 @@ def read_row(size, text):
     names = [tag.name for tag in known_tags(size)]
     if name not in names:
         raise bad("no tag of a source row:" if size == SOURCE_WORDS
-                  else "no tag of a target row:", name, names + section_names())
+                  else "no tag of a target row:", name, names)
     tag = names.index(name)
     words = read_form(known_tags(size)[tag].shape.form, fields.strip(), name + " ")
     return [tag] + words + [0] * (size - 1 - len(words))
@@ -175,7 +177,7 @@ def read_bits(text):
         return bytes(value >> k & 1 for k in range(width))
     digits = "".join(text.split())
     if not re.fullmatch("[01]+", digits):
-        raise bad("not bits, `bytes ..` or `value # width #`:", text, section_names())
+        raise bad("not bits, `bytes ..` or `value # width #`:", text)
     return bytes(int(digit) for digit in digits)
 
 
@@ -205,6 +207,32 @@ def section_names():
     return [section.name for section in SECTIONS]
 
 
+def meant_section(line):
+    """The section whose mistyped name a line seems to be, or None."""
+    words = re.sub("[-_:]", " ", line).split()
+    tags = [tag.name for tag in known_tags(SOURCE_WORDS)]
+    if not words or words[0] in tags + ["words", "bytes", "value"]:
+        return None
+    text = " ".join(words).lower()
+    near = difflib.get_close_matches(text, section_names(), 1, 0.7)
+    return near[0] if near and re.fullmatch("[a-z ]+", text) else None
+
+
+def read_body_line(place, bodies, line):
+    """The bytes that a line adds to the body of the section that it stands in."""
+    if line[0] in "(;":
+        raise BadListing("this looks like SMT-LIB; " + LOOKS)
+    try:
+        if place is None:
+            raise BadListing(f"no section: `{cut(line)}`; {LOOKS}")
+        return read_line(SECTIONS[place], bodies[place], line)
+    except BadListing:
+        meant = meant_section(line)
+        if meant is None:
+            raise
+        raise BadListing(f"no section: `{cut(line)}`; is `{meant}` meant?") from None
+
+
 def parse(text):
     """The book of a listing. BadListing's arguments are line number and message."""
     names, bodies, place = section_names(), [bytearray() for _ in SECTIONS], None
@@ -217,10 +245,9 @@ def parse(text):
                 if place in seen:
                     raise bad("twice the section", line)
                 seen.add(place)
-            elif line and place is None:
-                raise bad("no section:", line, names)
             elif line:
-                bodies[place] += read_line(SECTIONS[place], bodies[place], line)
+                added = read_body_line(place, bodies, line)
+                bodies[place] += added
         except BadListing as error:
             raise BadListing(at, str(error)) from None
     return encode(bodies)

@@ -4,12 +4,16 @@
 import glob
 import os
 import random
+import resource
+import signal
 import subprocess
 import sys
 import tempfile
 import unittest
+import xml.etree.ElementTree as xml
 
 import book as command
+from draw import draw, lanes
 from explain import ANSWERS, explain
 from graph import MAX, TAGS, known_tags
 from listing import SECTIONS, BadListing, BITS, ROW, decode, encode, listing, pack, parse
@@ -142,6 +146,16 @@ BAD_LISTINGS = [
     ("source\n words\n", 2, "numbers are missing"),
     ("source roots\n -\n", 2, "not a number: `-`"),
     ("map\n targets\n", 2, "is `target` meant?"),
+    ("source\n Var 8\nsorce bits\n", 3, "no section: `sorce bits`; is `source bits` meant?"),
+    ("source\n Var 8\nSource Bits\n", 3, "is `source bits` meant?"),
+    ("source roots:\n 0\n", 1, "is `source roots` meant?"),
+    ("reads\n cals\n", 2, "is `calls` meant?"),
+    ("source roots\n 0\ntaget roots\n 0\n", 3, "is `target roots` meant?"),
+    ("source bits\n 01\npairs_and_argument\n", 3, "is `pairs and arguments` meant?"),
+    ("source\n Call\n", 2, "not of the form `Call function"),
+    ("(set-logic QF_BV)\n", 1, "this looks like SMT-LIB; a listing is a section's name"),
+    ("; a script\n(set-logic QF_BV)\n", 1, "this looks like SMT-LIB"),
+    ("source\n(declare-const x (_ BitVec 8))\n", 2, "this looks like SMT-LIB"),
     ("reads\n 1 7 0\n", 2, "not of the form `variable # array # index #`"),
     ("calls\n variable 1 function 2 arguments 3\n", 2, "not of the form"),
     ("source bits\n 0120\n", 2, "not bits"),
@@ -233,6 +247,70 @@ class Explanations(unittest.TestCase):
                     self.assertTrue(explain(data, (number, place, random_.choice([0, 1, 2, MAX]))))
 
 
+def shapes(picture, kind, style):
+    """The elements of a picture of that kind and style."""
+    found = xml.fromstring(picture).iter("{http://www.w3.org/2000/svg}" + kind)
+    return [element for element in found if style in element.get("class", "").split()]
+
+
+def boxes(picture):
+    return [tuple(int(box.get(key)) for key in ("x", "y", "width", "height"))
+            for box in shapes(picture, "rect", "box")]
+
+
+class Pictures(unittest.TestCase):
+    def picture(self, name):
+        return draw(decode(sample(name, ".book"))[0])
+
+    def test_counts(self):
+        """reply has 25 and 65 rows, all mapped, 5 reads, 4 roots twice, 10 congruence roots."""
+        picture = self.picture("reply")
+        counts = [len(shapes(picture, kind, style)) for kind, style in (
+            ("rect", "box"), ("path", "map"), ("rect", "read"), ("rect", "root"),
+            ("rect", "congruence"))]
+        self.assertEqual(counts, [90, 25, 5, 8, 10])
+        picture = self.picture("empty-reply")
+        counts = [len(shapes(picture, "rect", style)) for style in ("call", "unmapped")]
+        self.assertEqual(counts, [3, 2])
+
+    def test_texts(self):
+        picture = self.picture("case-10a")
+        for text in ("source", "target", "3: Select array 7 index 1", "8 bits; 0 -&gt; 2",
+                     "array 7 at 1", "5: Ite 4 2 3"):
+            self.assertIn(text, picture)
+
+    def test_boxes_are_apart_and_inside(self):
+        for path in SAMPLES:
+            picture = self.picture(stem(path))
+            size = xml.fromstring(picture)
+            width, height = int(size.get("width")), int(size.get("height"))
+            for k, (x, y, wide, high) in enumerate(boxes(picture)):
+                self.assertTrue(0 <= x and x + wide <= width and 0 <= y and y + high <= height)
+                for x2, y2, wide2, high2 in boxes(picture)[:k]:
+                    self.assertTrue(x + wide <= x2 or x2 + wide2 <= x
+                                    or y + high <= y2 or y2 + high2 <= y, stem(path))
+
+    def test_lanes_are_apart(self):
+        for seed in range(50):
+            random_ = random.Random(seed)
+            taken = [sorted(random_.sample(range(row + 1, 41), random_.randrange(3)))
+                     for row in range(38)]
+            lane = lanes(taken)
+            for row, other in ((row, other) for row in lane for other in lane if row < other):
+                if lane[row] == lane[other]:
+                    self.assertLess(taken[row][-1], other)
+
+    def test_any_book(self):
+        for seed in range(300):
+            with self.subTest(seed=seed):
+                xml.fromstring(draw(random_bodies(seed) if seed % 2 else damaged(seed)))
+
+    def test_picture_in_docs(self):
+        """docs/lowering.svg is `python3 tools/book.py draw samples/case-10a.book`."""
+        kept = contents(os.path.join(TOP, "docs", "lowering.svg")).decode()
+        self.assertEqual(kept, self.picture("case-10a"))
+
+
 class CommandLine(unittest.TestCase):
     def setUp(self):
         folder = tempfile.TemporaryDirectory()
@@ -271,11 +349,23 @@ class CommandLine(unittest.TestCase):
         self.assertIn("bad.txt:2: no tag", self.run_book("make", bad, status=2)[1])
         latin = self.file("latin.txt", b"source\n Var 8 # \xe9\n")
         self.assertIn("latin.txt:2: not UTF-8", self.run_book("make", latin, status=2)[1])
+        book = os.path.join(TOP, "samples", "case-1.book")
+        self.assertIn("this looks like a book", self.run_book("make", book, status=2)[1])
         self.assertIn("No such file", self.run_book("make", "/no/such", status=2)[1])
         self.assertIn("No such file", self.run_book("show", "/no/such", status=2)[1])
         self.assertIn("directory", self.run_book("show", self.folder, status=2)[1])
         for words in ([], ["make"], ["show", "a", "b"], ["eat", "a"], ["make", "a", "-x"]):
             self.assertIn("usage", self.run_book(*words, status=2)[1])
+
+    def test_draw(self):
+        path = os.path.join(TOP, "samples", "case-10a.book")
+        drawn, _ = self.run_book("draw", path, status=0)
+        made = os.path.join(self.folder, "made.svg")
+        self.run_book("draw", path, "-o", made, status=0)
+        self.assertEqual(contents(made), drawn)
+        drawn, message = self.run_book("draw", "-", status=1, given=b"source\n")
+        self.assertEqual(drawn, b"")
+        self.assertIn("this looks like text; `tools/book.py make`", message)
 
     def test_bad_shape(self):
         data = sample("case-1", ".book") + b"x"
@@ -335,6 +425,36 @@ class Samples(unittest.TestCase):
             with self.subTest(sample=stem(path)):
                 line, _ = command.ask(VERDICT, sample(stem(path), ".book"))
                 self.assertEqual(line.encode(), sample(stem(path), ".line"))
+
+
+def with_stack(kibibytes):
+    """Limits the stack of a program that is started."""
+    return lambda: resource.setrlimit(resource.RLIMIT_STACK, (kibibytes * 1024,) * 2)
+
+
+@unittest.skipUnless(os.path.exists(VERDICT), "rt check verdict builds target/bin/verdict")
+class Failures(unittest.TestCase):
+    """What docs/BOOKS.md says of verdict when things fail around it."""
+
+    def verdict(self, **options):
+        run = subprocess.run([VERDICT], stderr=subprocess.PIPE, **options)
+        return run.returncode, run.stdout
+
+    def test_read(self):
+        for descriptor in (os.open(TOP, os.O_RDONLY), os.open(os.devnull, os.O_WRONLY)):
+            self.addCleanup(os.close, descriptor)
+            self.assertEqual(self.verdict(stdin=descriptor, stdout=subprocess.PIPE),
+                             (0, b"refused 20 0 0\n"))
+
+    @unittest.skipUnless(os.path.exists("/dev/full"), "no /dev/full")
+    def test_write(self):
+        with open("/dev/full", "wb") as full:
+            self.assertEqual(self.verdict(input=sample("reply", ".book"), stdout=full)[0], 0)
+
+    def test_stack(self):
+        for kibibytes, outcome in ((128, (-signal.SIGSEGV, b"")), (512, (0, b"accepted\n"))):
+            self.assertEqual(self.verdict(input=sample("reply", ".book"), stdout=subprocess.PIPE,
+                                          preexec_fn=with_stack(kibibytes)), outcome)
 
 
 if __name__ == "__main__":
