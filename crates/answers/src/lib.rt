@@ -37,17 +37,30 @@ pub enum Answer {
     BadBit(u64, u64),
     // list, by its place in the order lent
     WorkShort(u64),
-    // position in the root list
-    BadRoot(u64),
+    // position in the root list; graph, 0 where the operation has one list
+    BadRoot(u64, u64),
     // 0 too short for its contents, a section, 12 bytes left over, 13 too long
     BookShape(u64),
-    // row wider than 64 bits
-    TooWide(u64),
+    // row wider than 64 bits; graph, 0 where the operation has one
+    TooWide(u64, u64),
     // words expected, words found
     ValueCount(u64, u64),
     // row of a variable
     ValueRange(u64),
     NoSection,
+    // entry of the cells
+    CellTable(u64),
+    // entry of the function cells
+    FunctionCells(u64),
+    // position in the target's root list
+    RootFalse(u64),
+    // entry of the sort table
+    SortTable(u64),
+    // section whose list is too short
+    NoRows(u64),
+    BookFull,
+    // list, by its place in the order lent; found short after it was begun, so that all is zeroed
+    ListShort(u64),
 }
 
 // An answer as three words.
@@ -157,20 +170,20 @@ pub fn words_of(a: Answer) -> Words
             place: list,
             detail: 0,
         },
-        Answer::BadRoot(position) => Words {
+        Answer::BadRoot(position, graph) => Words {
             number: 19,
             place: position,
-            detail: 0,
+            detail: graph,
         },
         Answer::BookShape(place) => Words {
             number: 20,
             place: place,
             detail: 0,
         },
-        Answer::TooWide(row) => Words {
+        Answer::TooWide(row, graph) => Words {
             number: 21,
             place: row,
-            detail: 0,
+            detail: graph,
         },
         Answer::ValueCount(expected, found) => Words {
             number: 22,
@@ -185,6 +198,41 @@ pub fn words_of(a: Answer) -> Words
         Answer::NoSection => Words {
             number: 24,
             place: 0,
+            detail: 0,
+        },
+        Answer::CellTable(entry) => Words {
+            number: 25,
+            place: entry,
+            detail: 0,
+        },
+        Answer::FunctionCells(entry) => Words {
+            number: 26,
+            place: entry,
+            detail: 0,
+        },
+        Answer::RootFalse(position) => Words {
+            number: 27,
+            place: position,
+            detail: 0,
+        },
+        Answer::SortTable(entry) => Words {
+            number: 28,
+            place: entry,
+            detail: 0,
+        },
+        Answer::NoRows(section) => Words {
+            number: 29,
+            place: section,
+            detail: 0,
+        },
+        Answer::BookFull => Words {
+            number: 30,
+            place: 0,
+            detail: 0,
+        },
+        Answer::ListShort(short) => Words {
+            number: 18,
+            place: short,
             detail: 0,
         },
     }

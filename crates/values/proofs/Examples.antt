@@ -27,7 +27,7 @@ case-12-rotr = refl
 short : values (two 2) [] (1 ∷ 9 ∷ 7 ∷ []) (9 ∷ 9 ∷ 9 ∷ []) (9 ∷ 9 ∷ []) ≡ out (WorkShort 2) (9 ∷ 9 ∷ 9 ∷ []) (9 ∷ 9 ∷ [])
 short = refl
 
-too-wide : values (t4 0 65 0 0 []) [] [] (9 ∷ []) (9 ∷ []) ≡ out (TooWide 0) (0 ∷ []) (0 ∷ [])
+too-wide : values (t4 0 65 0 0 []) [] [] (9 ∷ []) (9 ∷ []) ≡ out (TooWide 0 0) (0 ∷ []) (0 ∷ [])
 unfolding first build
 too-wide = refl
 

@@ -34,7 +34,7 @@ rows-tests false true r a b d row e = no-way (sym e)
 rows-tests false false true a b d row e = no-way (sym e)
 rows-tests false false false a b d row e = (refl, refl, refl)
 
-pub given-tests : (p q r : Bool) (a b d f : ℕ) → isAccepted (cond p (TooWide a) (cond q (cond r (ValueRange b) Accepted) (ValueCount d f))) ≡ true
+pub given-tests : (p q r : Bool) (a b d f : ℕ) → isAccepted (cond p (TooWide a 0) (cond q (cond r (ValueRange b) Accepted) (ValueCount d f))) ≡ true
     → (p ≡ false) × (q ≡ true) × (r ≡ false)
 given-tests true q r a b d f e = no-way (sym e)
 given-tests false true true a b d f e = no-way (sym e)

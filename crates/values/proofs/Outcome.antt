@@ -30,16 +30,16 @@ rows-zero false false true a b d row old new e = refl
 rows-zero false false false a b d row old new e = no-way e
 
 given-zero : (p q r : Bool) (a b d f : ℕ) (old new : List ℕ)
-    → isAccepted (cond p (TooWide a) (cond q (cond r (ValueRange b) Accepted) (ValueCount d f))) ≡ false
-    → lent (cond p (TooWide a) (cond q (cond r (ValueRange b) Accepted) (ValueCount d f))) old new ≡ replicate (length old) 0
+    → isAccepted (cond p (TooWide a 0) (cond q (cond r (ValueRange b) Accepted) (ValueCount d f))) ≡ false
+    → lent (cond p (TooWide a 0) (cond q (cond r (ValueRange b) Accepted) (ValueCount d f))) old new ≡ replicate (length old) 0
 given-zero true q r a b d f old new e = refl
 given-zero false true true a b d f old new e = refl
 given-zero false true false a b d f old new e = no-way e
 given-zero false false r a b d f old new e = refl
 
 -- an accepted answer is Accepted
-given-yes : (p q r : Bool) (a b d f : ℕ) → isAccepted (cond p (TooWide a) (cond q (cond r (ValueRange b) Accepted) (ValueCount d f))) ≡ true
-    → cond p (TooWide a) (cond q (cond r (ValueRange b) Accepted) (ValueCount d f)) ≡ Accepted
+given-yes : (p q r : Bool) (a b d f : ℕ) → isAccepted (cond p (TooWide a 0) (cond q (cond r (ValueRange b) Accepted) (ValueCount d f))) ≡ true
+    → cond p (TooWide a 0) (cond q (cond r (ValueRange b) Accepted) (ValueCount d f)) ≡ Accepted
 given-yes p q r a b d f e = let (x, y, z) = given-tests p q r a b d f e in rw (x, y, z)
 
 module _ (g bits given ws vs : List ℕ) where

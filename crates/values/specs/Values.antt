@@ -35,7 +35,7 @@ badWord g given = first (wordBad g given) (rowCount Target g)
 abbrev pub givenAnswer : List ℕ → List ℕ → List ℕ → Answer
 givenAnswer g ws given =
     let n = rowCount Target g in
-    cond (ltb (wideRow ws n) n) (TooWide (wideRow ws n))
+    cond (ltb (wideRow ws n) n) (TooWide (wideRow ws n) 0)
     (cond (eqb (length given) n) (cond (ltb (badWord g given) n) (ValueRange (badWord g given)) Accepted) (ValueCount n (length given)))
 
 -- "15; 18 (1 widths, 2 values); 16; 17; 2; 21; 22; 23", over lent lists with room for some words each

@@ -57,7 +57,7 @@ fn given_answer(g: &[u64], given: &[u64], ws: &[u64]) -> Answer
     let n = ws.len();
     let wide = too_wide(ws);
     if wide < n {
-        return Answer::TooWide(wide as u64);
+        return Answer::TooWide(wide as u64, 0);
     }
     if given.len() != n {
         return Answer::ValueCount(n as u64, given.len() as u64);

@@ -112,10 +112,10 @@ unfolding first build
 long-call = refl
 
 -- 19: a width not 1, a row past the widths
-wide-root : rootsAnswer (32 ∷ 8 ∷ 1 ∷ []) (2 ∷ 1 ∷ []) ≡ BadRoot 1
+wide-root : rootsAnswer (32 ∷ 8 ∷ 1 ∷ []) (2 ∷ 1 ∷ []) ≡ BadRoot 1 0
 unfolding first
 wide-root = refl
 
-far-root : rootsAnswer (32 ∷ 8 ∷ 1 ∷ []) (3 ∷ []) ≡ BadRoot 0
+far-root : rootsAnswer (32 ∷ 8 ∷ 1 ∷ []) (3 ∷ []) ≡ BadRoot 0 0
 unfolding first
 far-root = refl

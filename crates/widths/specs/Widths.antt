@@ -53,4 +53,4 @@ targetWidths target bits ws = graphWidths Target target bits [] ws
 
 -- "19 BadRoot (list position) for a row past the widths or a width not 1"
 abbrev pub rootsAnswer : List ℕ → List ℕ → Answer
-rootsAnswer ws roots = cond (ltb (badRoot ws roots) (length roots)) (BadRoot (badRoot ws roots)) Accepted
+rootsAnswer ws roots = cond (ltb (badRoot ws roots) (length roots)) (BadRoot (badRoot ws roots) 0) Accepted

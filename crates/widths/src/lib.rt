@@ -77,7 +77,7 @@ pub fn roots(ws: &[u64], roots: &[u64]) -> Answer
 {
     let position = wf::roots_wf(ws, roots);
     if position < roots.len() {
-        Answer::BadRoot(position as u64)
+        Answer::BadRoot(position as u64, 0)
     } else {
         Answer::Accepted
     }

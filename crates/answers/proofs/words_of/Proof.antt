@@ -1,4 +1,4 @@
--- `answers::words_of` meets its contract. Assumes nothing.
+-- Each arm has its variant's line of `wordsOf`. Assumes nothing.
 use borrow.Author.Needs.{needs}
 use Rattle.answers.proofs.words_of.Statement.{statement}
 use Rattle.answers.proofs.words_of.Tie as tie
@@ -78,6 +78,27 @@ enum-known-a-23 c = search needs
 enum-told-2 : tie.Need-enum-told-2
 enum-told-2 c = search needs
 
+enum-known-a-24 : tie.Need-enum-known-a-24
+enum-known-a-24 c = search needs
+
+enum-known-a-25 : tie.Need-enum-known-a-25
+enum-known-a-25 c = search needs
+
+enum-known-a-26 : tie.Need-enum-known-a-26
+enum-known-a-26 c = search needs
+
+enum-known-a-27 : tie.Need-enum-known-a-27
+enum-known-a-27 c = search needs
+
+enum-known-a-28 : tie.Need-enum-known-a-28
+enum-known-a-28 c = search needs
+
+enum-told-3 : tie.Need-enum-told-3
+enum-told-3 c = search needs
+
+enum-known-a-29 : tie.Need-enum-known-a-29
+enum-known-a-29 c = search needs
+
 returns : tie.Need-returns
 returns c = rw (c .enum-told .given .1)
 
@@ -153,6 +174,27 @@ returns-24 c = rw (c .before .a23 .given .1)
 returns-25 : tie.Need-returns-25
 returns-25 c = rw (c .enum-told2 .given .1)
 
+returns-26 : tie.Need-returns-26
+returns-26 c = rw (c .before .a24 .given .1)
+
+returns-27 : tie.Need-returns-27
+returns-27 c = rw (c .before .a25 .given .1)
+
+returns-28 : tie.Need-returns-28
+returns-28 c = rw (c .before .a26 .given .1)
+
+returns-29 : tie.Need-returns-29
+returns-29 c = rw (c .before .a27 .given .1)
+
+returns-30 : tie.Need-returns-30
+returns-30 c = rw (c .before .a28 .given .1)
+
+returns-31 : tie.Need-returns-31
+returns-31 c = rw (c .enum-told3 .given .1)
+
+returns-32 : tie.Need-returns-32
+returns-32 c = rw (c .before .a29 .given .1)
+
 pub words-of-spec : {M : Type 1} → statement M
 words-of-spec =
     tie.close
@@ -182,6 +224,13 @@ words-of-spec =
     enum-known-a-22
     enum-known-a-23
     enum-told-2
+    enum-known-a-24
+    enum-known-a-25
+    enum-known-a-26
+    enum-known-a-27
+    enum-known-a-28
+    enum-told-3
+    enum-known-a-29
     returns
     returns-2
     returns-3
@@ -206,4 +255,11 @@ words-of-spec =
     returns-22
     returns-23
     returns-24
-    returns-25)
+    returns-25
+    returns-26
+    returns-27
+    returns-28
+    returns-29
+    returns-30
+    returns-31
+    returns-32)
