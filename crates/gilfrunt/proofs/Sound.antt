@@ -10,8 +10,8 @@ use Rattle.answers.specs.declared.Words.{Words}
 use Rattle.answers.specs.Answer.{wordsOf, isAccepted}
 use Rattle.lowering.specs.Images.{MAX}
 use Rattle.lowering.specs.Check.{Lowering, Outcome, outcome, check}
-use Rattle.lowering.specs.Sound.{Sound}
-use Rattle.lowering.proofs.Theorem.{sound}
+use Rattle.soundness.specs.Sound.{Sound}
+use Rattle.soundness.proofs.Theorem.{sound}
 use Rattle.judge.specs.Judge.{held, Judged, judged, judge}
 use Rattle.judge.proofs.Sound.{judge-sound}
 

@@ -7,7 +7,7 @@ ghost use Rattle.gilfrunt.specs.Exports.{result, resultOf, results, resu
 ghost use Rattle.book.specs.Book.{sectionAnswer, sectionPlace};
 ghost use Rattle.judge.specs.Judge.{held, judge};
 ghost use Rattle.lowering.specs.Check.{lowering, check};
-ghost use Rattle.lowering.specs.Sound.{Sound};
+ghost use Rattle.soundness.specs.Sound.{Sound};
 use answers::Words;
 use book::Stretch;
 

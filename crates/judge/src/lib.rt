@@ -9,7 +9,7 @@ ghost use mathlib.Core.Bool.{true};
 ghost use Rattle.answers.specs.Answer.{andThen, isAccepted};
 ghost use Rattle.answers.specs.declared.Answer.the-variants.{WorkShort};
 ghost use Rattle.lowering.specs.Check.{outcome, check, refuse, firstRefusal, countAnswers};
-ghost use Rattle.lowering.specs.Sound.{Sound};
+ghost use Rattle.soundness.specs.Sound.{Sound};
 ghost use Rattle.judge.specs.Judge.{held, bookWords, judged, judge, verdict};
 use answers::Answer;
 

@@ -5,9 +5,9 @@ use Rattle.rows.specs.declared.Graph.the-variants.{Source, Target}
 use Rattle.rows.proofs.Encoding.{clean}
 use Rattle.value.proofs.Tagged.{core-rows}
 use Rattle.wf.proofs.Promise.{well-formed}
 use Rattle.lowering.specs.Check.{Lowering}
-use Rattle.lowering.proofs.Facts.{Formed}
-use Rattle.lowering.proofs.Passed.{Passed}
+use Rattle.soundness.proofs.Facts.{Formed}
+use Rattle.soundness.specs.Passed.{Passed}
 
 pub formed : (L : Lowering) → Passed L → Formed L
 formed L P =

@@ -13,18 +13,18 @@ use Rattle.rows.specs.declared.Node.{Node}
 use Rattle.rows.specs.declared.Node.the-variants.{Var, Const, Un, Bin, Extract, Extend, Ite, Select, Call, Unknown}
 use Rattle.rows.specs.Tags.{either}
 use Rattle.wf.specs.Promise.{RowFormed}
 use Rattle.lowering.specs.declared.Walk.{Walk}
 use Rattle.lowering.specs.declared.Walk.the-variants.{RanOut, Met, Lost}
 use Rattle.lowering.specs.Images.{MAX}
 use Rattle.lowering.specs.Tables.{readCount, readVar, readIndex, callCount, callVar, argCount, callArg}
 use Rattle.lowering.specs.Matching.{rowClasses}
 use Rattle.lowering.specs.Check.{Lowering, sourceRows, targetRows, sourceWidths, classesOfTables, classes, offsets}
-use Rattle.lowering.proofs.Facts.{S, m, Mapped, Image, Formed, Ends, walkOf, Found, ReadEntry, CallEntry, Owner, by-var, by-read, by-call, Owns}
-use Rattle.lowering.proofs.Passed.{Passed}
-use Rattle.lowering.proofs.Marks.{in-no-order}
-use Rattle.lowering.proofs.Tables.{read-facts, call-facts, read-index, class-of-read, offset-of-read, class-of-call, offset-of-call}
-use Rattle.lowering.proofs.Classes.{kind, usedEnd, usedAt, Uses, Used, turn-one, turn-live, answerAt, classesAt, var-passed, classes-length, mapped-passed, rows-hold, kind-stays}
-use Rattle.lowering.proofs.Found.{of-row}
+use Rattle.soundness.proofs.Facts.{S, m, Mapped, Image, Formed, Ends, walkOf, Found, ReadEntry, CallEntry, Owner, by-var, by-read, by-call, Owns}
+use Rattle.soundness.specs.Passed.{Passed}
+use Rattle.soundness.proofs.Marks.{in-no-order}
+use Rattle.soundness.proofs.Tables.{read-facts, call-facts, read-index, class-of-read, offset-of-read, class-of-call, offset-of-call}
+use Rattle.soundness.proofs.Classes.{kind, usedEnd, usedAt, Uses, Used, turn-one, turn-live, answerAt, classesAt, var-passed, classes-length, mapped-passed, rows-hold, kind-stays}
+use Rattle.soundness.proofs.Found.{of-row}
 
 module _ (L : Lowering) where
   -- a row before row i is sent to y

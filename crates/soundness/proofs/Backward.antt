@@ -2,7 +2,7 @@
 use Prim.Native.Nat.{ℕ, _<_, _≤_, _^_}
 use mathlib.Core.Path.{_≡_, refl, sym, ap, _∙_, subst}
 use mathlib.Core.Bool.{Bool, true, false, cond}
-use mathlib.Core.Logic.{_⊎_, ⊎-elim}
+use mathlib.Core.Logic.{⊎-elim}
 use mathlib.Core.List.{List, [], _∷_}
 use native.Mathlib.Nat.{eq-or-lt-of-le}
 use native.Mathlib.Omega.{arith}
@@ -23,15 +23,15 @@ use Rattle.value.specs.Operate.{operate, constNumber}
 use Rattle.value.specs.Graph.{Assigns}
 use Rattle.value.proofs.Tagged.{node-var}
 use Rattle.meaning.specs.Meaning.{Interpretation, OfKind, RootsTrue, sourceValue}
 use Rattle.lowering.specs.Images.{fieldAt, unequalConst}
 use Rattle.lowering.specs.Tables.{readCount, readVar, readArray, readIndex, callCount, callVar, callFunction, argCount, callArg, sameFunction}
 use Rattle.lowering.specs.Check.{Lowering, sourceRows, targetRows}
-use Rattle.lowering.specs.Transfer.{sameVal, sameVals, readHit, callHit, readAt, callAt, interpretation}
-use Rattle.lowering.proofs.Facts.{S, m, Formed, ReadCong, CallCong, Matched, rootOf}
 use Rattle.lowering.proofs.Images.{const-row, both-const}
-use Rattle.lowering.proofs.Tells.{tv, row-value, row-width, cong-tells, tells-out, val-ext}
-use Rattle.lowering.proofs.Agree.{sv, Agree, LeafRead, LeafCall, agree-rows, unequal-numbers}
-use Rattle.lowering.proofs.Forward.{of-var}
+use Rattle.soundness.specs.Transfer.{sameVal, sameVals, readHit, callHit, readAt, callAt, interpretation}
+use Rattle.soundness.proofs.Facts.{S, m, Formed, ReadCong, CallCong, Matched, rootOf}
+use Rattle.soundness.proofs.Tells.{tv, row-value, row-width, cong-tells, tells-out, val-ext}
+use Rattle.soundness.proofs.Agree.{sv, Agree, LeafRead, LeafCall, agree-rows, unequal-numbers}
+use Rattle.soundness.proofs.Forward.{of-var}
 
 -- lists of values that the test finds equal are equal, and it finds equal ones so
 sameVal-true : (u v : Val) → sameVal u v ≡ true → u ≡ v

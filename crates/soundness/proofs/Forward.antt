@@ -2,7 +2,7 @@
 use Prim.Native.Nat.{ℕ, _<_, _≤_, _^_}
 use mathlib.Core.Path.{_≡_, refl, sym, ap, _∙_, subst}
 use mathlib.Core.Bool.{Bool, true, false, cond}
-use mathlib.Core.Logic.{_⊎_, ⊎-elim}
+use mathlib.Core.Logic.{⊎-elim}
 use mathlib.Core.List.{List, [], _∷_}
 use native.Mathlib.Omega.{arith}
 use borrow.Author.Tests.{eq-eqb, eqb-true, lt-ltb, ltb-true}
@@ -21,14 +21,14 @@ use Rattle.value.specs.Val.{Val, val, wid, nat}
 use Rattle.value.specs.Graph.{Assigns}
 use Rattle.value.proofs.Tagged.{node-var}
 use Rattle.meaning.specs.Meaning.{Interpretation, OfKind, RootsTrue, sourceValue}
 use Rattle.lowering.specs.Images.{mapAt, fieldAt}
 use Rattle.lowering.specs.Tables.{readCount, readVar, readArray, readIndex, callCount, callVar, callFunction, argCount, callArg, sameFunction}
 use Rattle.lowering.specs.Check.{Lowering, sourceRows}
-use Rattle.lowering.specs.Transfer.{origin, isOrigin, varOrigin, readOf, callOf, originValue, readCell, callResult, assignment}
-use Rattle.lowering.proofs.Facts.{S, T, m, Mapped, Formed, Owner, by-var, by-read, by-call, ReadPair, CallPair, Matched, rootOf}
-use Rattle.lowering.proofs.Images.{var-row}
-use Rattle.lowering.proofs.Tells.{tv, row-value, cong-tells, cong-width, tells-in}
-use Rattle.lowering.proofs.Agree.{sv, Agree, LeafRead, LeafCall, agree-rows}
+use Rattle.soundness.specs.Transfer.{origin, isOrigin, varOrigin, readOf, callOf, originValue, readCell, callResult, assignment}
+use Rattle.soundness.proofs.Facts.{S, T, m, Mapped, Formed, Owner, by-var, by-read, by-call, ReadPair, CallPair, Matched, rootOf}
+use Rattle.soundness.proofs.Images.{var-row}
+use Rattle.soundness.proofs.Tells.{tv, row-value, cong-tells, cong-width, tells-in}
+use Rattle.soundness.proofs.Agree.{sv, Agree, LeafRead, LeafCall, agree-rows}
 
 -- calls of one function have one number and one count
 pub same-function : (L : Lowering) (k l : ℕ) → sameFunction (L .calls) k l ≡ true

@@ -16,14 +16,14 @@ use Rattle.lists.proofs.Choice.{no-way, lt-or-ge}
 use Rattle.lists.proofs.Tests.{all-true}
 use Rattle.rows.specs.declared.Graph.the-variants.{Target}
 use Rattle.rows.specs.Row.{rowAt}
 use Rattle.lowering.specs.Images.{MAX, unequalConst}
 use Rattle.lowering.specs.Tables.{readCount, readArray, readIndex, callCount, sameFunction}
 use Rattle.lowering.specs.Matching.{rowAnswer}
 use Rattle.lowering.specs.Roots.{Pair, pair, pairs, leads, readsNeed, rootAt, readRoot, callRoot}
 use Rattle.lowering.specs.Check.{Lowering, sourceRows, targetRows, callRoots}
-use Rattle.lowering.proofs.Facts.{m, Mapped, ReadCong, CallCong, ReadPair, CallPair, rootOf}
-use Rattle.lowering.proofs.Pairs.{At, Needed, pairs-has, pairs-only}
-use Rattle.lowering.proofs.Passed.{Passed}
+use Rattle.soundness.proofs.Facts.{m, Mapped, ReadCong, CallCong, ReadPair, CallPair, rootOf}
+use Rattle.soundness.proofs.Pairs.{At, Needed, pairs-has, pairs-only}
+use Rattle.soundness.specs.Passed.{Passed}
 
 -- the roots of a list of pairs stand from a place on
 module _ (troots : List ℕ) (test : ℕ → Pair → Bool) (needs : ℕ → ℕ → Bool) (from n : ℕ)

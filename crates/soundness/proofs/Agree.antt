@@ -26,15 +26,16 @@ use Rattle.value.specs.Val.{Val, val, wid, nat}
 use Rattle.value.specs.Operate.{operate, constNumber}
 use Rattle.value.specs.Graph.{nodeValue, Assigns}
 use Rattle.meaning.specs.Meaning.{Interpretation, stored, sourceNode, sourceValue}
 use Rattle.lowering.specs.declared.Walk.{Walk}
 use Rattle.lowering.specs.declared.Walk.the-variants.{Met, Lost}
 use Rattle.lowering.specs.Images.{fieldAt, bothConst, sameConst}
 use Rattle.lowering.specs.Matching.{isLevel, walk}
 use Rattle.lowering.specs.Check.{Lowering, sourceRows, targetRows, sourceWidths}
-use Rattle.lowering.proofs.Facts.{S, T, m, Mapped, Formed, SameCore, ReadOf, CallOf, Ends, walkOf, Found, Matched}
-use Rattle.lowering.proofs.Images.{eq-row, ite-row, const-row, both-const, same-const}
-use Rattle.lowering.proofs.Values.{Pairs, pairs-formed, source-value, source-width}
-use Rattle.lowering.proofs.Tells.{tv, row-value, row-width, row-formed, eq-number, ite-number, val-ext}
+use Rattle.lowering.proofs.Images.{const-row, both-const}
+use Rattle.soundness.proofs.Facts.{S, T, m, Mapped, Formed, SameCore, ReadOf, CallOf, Ends, walkOf, Found, Matched}
+use Rattle.soundness.proofs.Images.{eq-row, ite-row, same-const}
+use Rattle.soundness.proofs.Values.{Pairs, pairs-formed, source-value, source-width}
+use Rattle.soundness.proofs.Tells.{tv, row-value, row-width, row-formed, eq-number, ite-number, val-ext}
 
 bool-test : (b : Bool) → eqb (ofBool b) 1 ≡ b
 bool-test true = refl

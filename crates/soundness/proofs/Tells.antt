@@ -2,7 +2,7 @@
 use Prim.Native.Nat.{ℕ, zero, suc, _-_, _<_, _≤_}
 use mathlib.Core.Path.{_≡_, refl, sym, ap, _∙_}
 use mathlib.Core.Bool.{Bool, true, false, cond}
-use mathlib.Core.Logic.{_⊎_, ⊎-elim}
+use mathlib.Core.Logic.{⊎-elim}
 use mathlib.Core.List.{[]}
 use native.Mathlib.Nat.{eq-or-lt-of-le}
 use native.Mathlib.Omega.{arith}
@@ -20,13 +20,13 @@ use Rattle.value.specs.Val.{Val, val, wid, nat}
 use Rattle.value.specs.Operate.{operate}
 use Rattle.value.specs.Graph.{nodeValue, value, Assigns}
 use Rattle.value.proofs.Formed.{value-formed}
 use Rattle.lowering.specs.Images.{fieldAt}
 use Rattle.lowering.specs.Matching.{isEq}
 use Rattle.lowering.specs.Roots.{allEqual, congruent}
 use Rattle.lowering.specs.Check.{Lowering, targetRows, targetWidths}
-use Rattle.lowering.proofs.Facts.{T, Formed}
-use Rattle.lowering.proofs.Images.{eq-row, and-row, or-row, not-row}
-use Rattle.lowering.proofs.Values.{target-value}
+use Rattle.soundness.proofs.Facts.{T, Formed}
+use Rattle.soundness.proofs.Images.{eq-row, and-row, or-row, not-row}
+use Rattle.soundness.proofs.Values.{target-value}
 
 -- the number n is 1 where P holds and 0 where it does not
 pub record Tells (n : ℕ) (P : Type 0) : Type 0 where

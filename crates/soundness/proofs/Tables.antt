@@ -17,13 +17,14 @@ use Rattle.rows.specs.declared.Node.the-variants.{Var}
 use Rattle.rows.specs.Row.{rowAt}
 use Rattle.wf.specs.Rule.{indexWidth, cellWidth, hasWidth}
 use Rattle.wf.specs.Widths.{rowWidth}
 use Rattle.lowering.specs.Images.{fieldAt}
 use Rattle.lowering.specs.Tables.{readCount, readVar, readArray, readIndex, callCount, callVar, argCount, callArg, readGood, callGood, readClasses, callClasses, readOffsets}
 use Rattle.lowering.specs.Check.{Lowering, targetRows, targetWidths, noClasses, classesOfReads, classesOfTables, offsets}
-use Rattle.lowering.proofs.Facts.{T}
-use Rattle.lowering.proofs.Passed.{Passed}
-use Rattle.lowering.proofs.Images.{row-is, var-row}
-use Rattle.lowering.proofs.Marks.{marks-length, table-at, table-stay, table-from}
+use Rattle.lowering.proofs.Marks.{marks-length}
+use Rattle.soundness.proofs.Facts.{T}
+use Rattle.soundness.specs.Passed.{Passed}
+use Rattle.soundness.proofs.Images.{row-is, var-row}
+use Rattle.soundness.proofs.Marks.{table-at, table-stay, table-from}
 
 -- a target row is the variable of some entry
 module _ (L : Lowering) where

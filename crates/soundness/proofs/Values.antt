@@ -21,7 +21,7 @@ use Rattle.value.specs.Val.{Val, val, wid}
 use Rattle.value.specs.Operate.{tagOf}
 use Rattle.value.specs.Graph.{nodeValue, rowValue, value}
 use Rattle.value.proofs.Formed.{core-width, apart}
-use Rattle.lowering.proofs.Images.{un-tags, extend-tags}
+use Rattle.soundness.proofs.Images.{un-tags, extend-tags}
 use Rattle.meaning.specs.Meaning.{Interpretation, stored, sourceNode, sourceRow, sourceValue}
 
 -- k pairs of a side list from s on: index and value are rows below i of these widths

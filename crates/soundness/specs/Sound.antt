@@ -1,11 +1,18 @@
 -- What acceptance is to mean (01, 'Meaning' and demand 3). Assumes nothing.
 use Prim.Native.Nat.{ℕ, _<_}
 use mathlib.Core.Path.{_≡_}
+use mathlib.Core.Bool.{true}
 use mathlib.Core.Logic.{_↔_}
+use mathlib.Core.List.{List}
+use Rattle.answers.specs.Answer.{isAccepted}
 use Rattle.value.specs.Graph.{value, Assigns}
 use Rattle.meaning.specs.Meaning.{Interpretation, OfKind, RootsTrue, SourceSatisfiable, TargetSatisfiable, sourceValue}
 use Rattle.lowering.specs.Images.{MAX, mapAt}
-use Rattle.lowering.specs.Check.{Lowering, sourceRows, targetRows}
+use Rattle.lowering.specs.Check.{Lowering, sourceRows, targetRows, check}
+
+-- "The checker accepts when Check's number is 0"
+abbrev pub Accepts : Lowering → List ℕ → List ℕ → List ℕ → List ℕ → Type 0
+Accepts L ws0 ws1 cls ent = isAccepted (check L ws0 ws1 cls ent .answer) ≡ true
 
 module _ (L : Lowering) where
   -- "A source row is mapped when its map word isn't MAX; the target row that the word names is its image"

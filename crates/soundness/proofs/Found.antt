@@ -18,16 +18,16 @@ use Rattle.rows.specs.Tags.{tVar}
 use Rattle.rows.specs.Node.{operands, TagGood}
 use Rattle.rows.proofs.Tags.{node-good}
 use Rattle.value.specs.Operate.{tagOf, parameters}
 use Rattle.lowering.specs.declared.Walk.{Walk}
 use Rattle.lowering.specs.declared.Walk.the-variants.{RanOut, Met, Lost}
 use Rattle.lowering.specs.Images.{MAX, mapNode}
 use Rattle.lowering.specs.Matching.{endGood, nodeMatches}
 use Rattle.lowering.specs.Check.{Lowering, sourceRows, targetRows, offsets}
-use Rattle.lowering.proofs.Facts.{S, T, m, Mapped, Formed, SameCore, CallOf, Ends, walkOf, Found}
-use Rattle.lowering.proofs.Passed.{Passed}
-use Rattle.lowering.proofs.Images.{un-tags, extend-tags, row-is, map-good, same-const}
-use Rattle.lowering.proofs.Tables.{ReadAt, CallAt, offset-of-read, offset-of-call}
-use Rattle.lowering.proofs.Classes.{test-of, answerAt, endOf, var-passed, ran-out, CallHere, call-passed, mapped-passed, read-at, call-at}
+use Rattle.soundness.proofs.Facts.{S, T, m, Mapped, Formed, SameCore, CallOf, Ends, walkOf, Found}
+use Rattle.soundness.specs.Passed.{Passed}
+use Rattle.soundness.proofs.Images.{un-tags, extend-tags, row-is, map-good, same-const}
+use Rattle.soundness.proofs.Tables.{ReadAt, CallAt, offset-of-read, offset-of-call}
+use Rattle.soundness.proofs.Classes.{test-of, answerAt, endOf, var-passed, ran-out, CallHere, call-passed, mapped-passed, read-at, call-at}
 
 module _ (L : Lowering) (P : Passed L) (F : Formed L) (small : targetRows L ≤ MAX) where
   -- a core row: the equations of its mapped node hold by themselves

@@ -1,4 +1,4 @@
--- What an accepted Check has passed, test by test. Assumes nothing.
+-- What an accepted Check has passed, test by test: all that demand 3 rests on. Assumes nothing.
 use Prim.Native.Nat.{ℕ, _+_, _<_, _≤_}
 use mathlib.Core.Path.{_≡_}
 use mathlib.Core.Bool.{true, false}

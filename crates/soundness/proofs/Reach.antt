@@ -23,18 +23,18 @@ use Rattle.rows.specs.Node.{operands}
 use Rattle.wf.specs.Rule.{indexWidth, cellWidth}
 use Rattle.wf.specs.Promise.{Below, RowFormed}
 use Rattle.value.specs.Operate.{tagOf}
 use Rattle.lowering.specs.declared.Walk.{Walk}
 use Rattle.lowering.specs.declared.Walk.the-variants.{Met, Lost}
 use Rattle.lowering.specs.Images.{MAX, fieldAt, bothConst, sameConst}
 use Rattle.lowering.specs.Tables.{readIndex, argCount, callArg}
 use Rattle.lowering.specs.Matching.{isLevel, walk}
 use Rattle.lowering.specs.Check.{Lowering, sourceRows, targetRows, sourceWidths}
-use Rattle.lowering.proofs.Facts.{S, T, m, Mapped, Formed, SameCore, Ends, walkOf, Found, Owner, by-var, by-read, by-call, Owns, Matched}
-use Rattle.lowering.proofs.Passed.{Passed}
-use Rattle.lowering.proofs.Images.{eq-row, ite-row}
-use Rattle.lowering.proofs.Values.{Pairs, pairs-formed}
-use Rattle.lowering.proofs.Classes.{usedEnd, usedAt, used, Uses, Used}
-use Rattle.lowering.proofs.Owners.{SentBefore, Behind, OwnedBy, use-owner, use-behind, live}
+use Rattle.soundness.proofs.Facts.{S, T, m, Mapped, Formed, SameCore, Ends, walkOf, Found, Owner, by-var, by-read, by-call, Owns, Matched}
+use Rattle.soundness.specs.Passed.{Passed}
+use Rattle.soundness.proofs.Images.{eq-row, ite-row}
+use Rattle.soundness.proofs.Values.{Pairs, pairs-formed}
+use Rattle.soundness.proofs.Classes.{usedEnd, usedAt, used, Uses, Used}
+use Rattle.soundness.proofs.Owners.{SentBefore, Behind, OwnedBy, use-owner, use-behind, live}
 
 -- a number of a list
 abbrev pub Among : ℕ → List ℕ → Type 0
