@@ -5,7 +5,7 @@ use mathlib.Core.Bool.{Bool, true, false}
 use mathlib.Core.List.{List, [], _++_, append-assoc, append-nil}
 use native.Mathlib.Nat.{add-zero}
 use native.Mathlib.Omega.{arith}
-use lib.ListN.{length, set, take, drop, length-append, length-drop, take-append-drop}
+use lib.ListN.{length, set, take, drop, length-append, length-take, length-drop, take-append-drop}
 use lib.Seq.{take-at, drop-at, drop-drop, drop-append-add, drop-length, length-take-le}
 use borrow.Rule.Slice.PartMut.{midOf, postOf, putMid, post-is, mid-len}
 use Rattle.lists.specs.Build.{build}
@@ -17,6 +17,18 @@ use Rattle.book.proofs.Shape.{good-book}
 -- bytes have a word for each eight
 pub words-length : (bytes : List ℕ) → length (wordsOf bytes) ≡ length bytes / 8
 words-length bytes = build-length (λ j before. wordAt bytes (8 * j)) (length bytes / 8)
+
+-- a section is no longer than its book, nor is the list of its words, whatever the contents say
+pub list-short : (b : List ℕ) (i : ℕ) → length (listOf b i) ≤ length b
+list-short b i = go (isBits i) refl
+  where
+    go : (t : Bool) → isBits i ≡ t → length (listOf b i) ≤ length b
+    go true e = rw e zero-le
+    go false e =
+        let c : length (listOf b i) ≡ length (body b i) / 8 = rw (e, words-length (body b i)) in
+        let t = length-take (lengthOf b i) (drop (startOf b i) b) in
+        let d : length (drop (startOf b i) b) ≡ length b - startOf b i = length-drop (startOf b i) b in
+        omega arith
 
 module _ (b : List ℕ) (g : Good b) where
   pub body-length : (i : ℕ) → i < sections → length (body b i) ≡ lengthOf b i

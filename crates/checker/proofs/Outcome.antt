@@ -23,7 +23,7 @@ use Rattle.lowering.proofs.Inversion.{each-accepted, not-refused}
 use Rattle.lowering.proofs.Marks.{marks-length}
 use Rattle.lowering.proofs.Refusals.{refusal-append}
 use Rattle.matching.specs.Ready.{Formed}
-use Rattle.checker.proofs.Form.{no-stop-source, no-stop-target}
+use Rattle.stages.proofs.Form.{no-stop-source, no-stop-target}
 use Rattle.checker.proofs.Keeps.{keeps-count, keeps-graphs, keeps-match}
 
 -- a list of widths has one for each row, and stands in front

@@ -1,300 +1,8 @@
 // The operation Check.
 ghost use mathlib.Core.Path.{_≡_};
-ghost use mathlib.Core.Bool.{true, false};
-ghost use mathlib.Core.List.{List, [], _++_};
-ghost use Prim.Native.Nat.{ℕ, _-_, _<_, _≤_};
-ghost use lib.ListN.{length, drop, replicate};
-ghost use Rattle.answers.specs.Answer.{isAccepted};
-ghost use Rattle.rows.specs.declared.Graph.{Graph};
-ghost use Rattle.rows.specs.Row.{rowCount};
-ghost use Rattle.rows.specs.Encoding.{rowBad};
-ghost use Rattle.wf.specs.Widths.{widths};
-ghost use Rattle.lowering.specs.Check.{lowering, classes, offsets, outcome, check, firstRefusal, countAnswers, graphAnswers, graphsAnswer, tableAnswers, rootAnswers, matchAnswers};
-ghost use Rattle.matching.specs.Ready.{Formed};
-ghost use Rattle.lowering.specs.Tables.{readCount, callCount, readClasses, callClasses, readOffsets, callOffsets};
-ghost use Rattle.congruence.specs.Walk.{ReadsIn, CallsIn};
-ghost use Rattle.images.specs.Bits.{ConstsWithin};
+ghost use Rattle.lowering.specs.Check.{lowering, outcome, check};
 use answers::Answer;
 use rows::Graph;
-
-// 15 and 18 of graphs of so many words, with room for some words in each of the four lists.
-pub fn count_answer(
-    source: usize,
-    target: usize,
-    w0: usize,
-    w1: usize,
-    c: usize,
-    e: usize,
-) -> Answer
-    ensures answer { λ r. ⌜ ((s t : List ℕ) → length s ≡ source → length t ≡ target → r ≡ firstRefusal (countAnswers s t w0 w1 c e)) ⌝ }
-{
-    if source % 5 != 0 {
-        return Answer::RowCount(1);
-    }
-    if target % 4 != 0 {
-        return Answer::RowCount(2);
-    }
-    if w0 < source / 5 {
-        return Answer::WorkShort(1);
-    }
-    let n = target / 4;
-    if w1 < n {
-        return Answer::WorkShort(2);
-    }
-    if c < n {
-        return Answer::WorkShort(3);
-    }
-    if e < n {
-        return Answer::WorkShort(4);
-    }
-    Answer::Accepted
-}
-
-// 16, 17, 1 and 2, where each graph's rows before its row `stop` are good and well formed and that row, if there is one, is badly encoded or ill-formed.
-fn graph_answer(
-    source: &[u64],
-    ebits: &[u8],
-    target: &[u64],
-    tbits: &[u8],
-    stop0: usize,
-    stop1: usize,
-) -> Answer
-    requires { ⌜ stop0 ≤ rowCount Graph.Source (now source) ⌝ }
-    requires { ⌜ ((j : ℕ) → j < stop0 → rowBad Graph.Source (now source) j ≡ false) ⌝ }
-    requires { ⌜ stop1 ≤ rowCount Graph.Target (now target) ⌝ }
-    requires { ⌜ ((j : ℕ) → j < stop1 → rowBad Graph.Target (now target) j ≡ false) ⌝ }
-    ensures answer { λ r. ⌜ r ≡ firstRefusal (graphAnswers (now (source .entry)) (now (ebits .entry)) (now (target .entry)) (now (tbits .entry)) stop0 stop1) ⌝ }
-{
-    let row0 = rows::bad_row(Graph::Source, source, stop0);
-    if row0 < rows::row_count(Graph::Source, source) {
-        return Answer::BadRow(row0 as u64, 1);
-    }
-    let row1 = rows::bad_row(Graph::Target, target, stop1);
-    if row1 < rows::row_count(Graph::Target, target) {
-        return Answer::BadRow(row1 as u64, 2);
-    }
-    let bit0 = rows::bad_bit(ebits);
-    if bit0 < ebits.len() {
-        return Answer::BadBit(bit0 as u64, 1);
-    }
-    let bit1 = rows::bad_bit(tbits);
-    if bit1 < tbits.len() {
-        return Answer::BadBit(bit1 as u64, 2);
-    }
-    if stop0 < row0 {
-        return Answer::Ext(stop0 as u64);
-    }
-    if stop1 < row1 {
-        return Answer::Core(stop1 as u64);
-    }
-    Answer::Accepted
-}
-
-// The widths of both graphs, or the first refusal by 01's order; a source that is refused leaves the target's widths unasked.
-fn graphs(
-    source: &[u64],
-    ebits: &[u8],
-    eside: &[u64],
-    target: &[u64],
-    tbits: &[u8],
-    ws0: &mut [u64],
-    ws1: &mut [u64],
-) -> Answer
-    requires { ⌜ rowCount Graph.Source (now source) ≤ length (now ws0) ⌝ }
-    requires { ⌜ rowCount Graph.Target (now target) ≤ length (now ws1) ⌝ }
-    ensures answer { λ r. ⌜ r ≡ graphsAnswer (now (source .entry)) (now (ebits .entry)) (now (eside .entry)) (now (target .entry)) (now (tbits .entry)) ⌝ }
-    ensures source_list { λ r. ⌜ (isAccepted r ≡ true → now (ws0 .exit) ≡ widths Graph.Source (length (now (ebits .entry))) (now (eside .entry)) (now (source .entry)) ++ drop (rowCount Graph.Source (now (source .entry))) (now (ws0 .entry))) ⌝ }
-    ensures target_list { λ r. ⌜ (isAccepted r ≡ true → now (ws1 .exit) ≡ widths Graph.Target (length (now (tbits .entry))) [] (now (target .entry)) ++ drop (rowCount Graph.Target (now (target .entry))) (now (ws1 .entry))) ⌝ }
-{
-    let stop0 = wf::graph_wf(Graph::Source, source, ebits.len() as u64, eside, ws0);
-    if stop0 < rows::row_count(Graph::Source, source) {
-        return graph_answer(source, ebits, target, tbits, stop0, 0);
-    }
-    let stop1 = wf::graph_wf(
-        Graph::Target,
-        target,
-        tbits.len() as u64,
-        &target[0..0],
-        ws1,
-    );
-    graph_answer(source, ebits, target, tbits, stop0, stop1)
-}
-
-// 12, 13 and 12 for roots left over, where the tables have passed.
-fn roots(
-    eroots: &[u64],
-    map: &[u64],
-    reads: &[u64],
-    calls: &[u64],
-    cargs: &[u64],
-    target: &[u64],
-    tbits: &[u8],
-    troots: &[u64],
-) -> Answer
-    requires { ⌜ ReadsIn (now reads) (now target) ⌝ }
-    requires { ⌜ CallsIn (now calls) (now cargs) ⌝ }
-    requires { ⌜ ConstsWithin Graph.Target (now tbits) (now target) ⌝ }
-    ensures answer { λ r. ⌜ r ≡ firstRefusal (rootAnswers (now (eroots .entry)) (now (map .entry)) (now (reads .entry)) (now (calls .entry)) (now (cargs .entry)) (now (target .entry)) (now (tbits .entry)) (now (troots .entry))) ⌝ }
-{
-    let lead = congruence::ext_roots_corr(eroots, map, troots);
-    if lead < eroots.len() {
-        return Answer::RootMismatch(lead as u64);
-    }
-    let a = congruence::array_cong(reads, target, tbits, troots, eroots.len());
-    if !a.ok {
-        return Answer::CongruenceMismatch(a.next as u64);
-    }
-    let u = congruence::uf_cong(calls, cargs, target, troots, a.next);
-    if !u.ok {
-        return Answer::CongruenceMismatch(u.next as u64);
-    }
-    if u.next != troots.len() {
-        return Answer::RootMismatch(0);
-    }
-    Answer::Accepted
-}
-
-// 5 and 6; where both tables pass, each entry has marked its variable's class and offset.
-fn entries(
-    reads: &[u64],
-    calls: &[u64],
-    cargs: &[u64],
-    target: &[u64],
-    ws: &[u64],
-    cls: &mut [u64],
-    ent: &mut [u64],
-) -> Answer
-    requires { ⌜ length (now cls) ≡ rowCount Graph.Target (now target) ⌝ }
-    requires { ⌜ length (now ent) ≡ rowCount Graph.Target (now target) ⌝ }
-    ensures answer { λ r. ⌜ r ≡ firstRefusal (tableAnswers (now (reads .entry)) (now (calls .entry)) (now (cargs .entry)) (now (target .entry)) (now (ws .entry)) (now (cls .entry))) ⌝ }
-    ensures classes { λ r. ⌜ (isAccepted r ≡ true → now (cls .exit) ≡ callClasses (now (calls .entry)) (readClasses (now (reads .entry)) (now (cls .entry)) (readCount (now (reads .entry)))) (callCount (now (calls .entry)))) ⌝ }
-    ensures offsets { λ r. ⌜ (isAccepted r ≡ true → now (ent .exit) ≡ callOffsets (now (calls .entry)) (readOffsets (now (reads .entry)) (now (ent .entry)) (readCount (now (reads .entry)))) (callCount (now (calls .entry)))) ⌝ }
-{
-    let r = tables::read_entries(reads, target, ws, cls, ent);
-    if r < tables::read_count(reads) as u64 {
-        return Answer::ReadTable(r);
-    }
-    let c = tables::call_entries(calls, cargs, target, cls, ent);
-    if c < tables::call_count(calls) as u64 {
-        return Answer::CallTable(c);
-    }
-    Answer::Accepted
-}
-
-// 3 to 14: whether the target, well formed and with its widths, is the lowering of the source. The two lists hold zeros before.
-fn matches(
-    source: &[u64],
-    ebits: &[u8],
-    eside: &[u64],
-    eroots: &[u64],
-    map: &[u64],
-    reads: &[u64],
-    calls: &[u64],
-    cargs: &[u64],
-    target: &[u64],
-    tbits: &[u8],
-    troots: &[u64],
-    ws: &[u64],
-    cls: &mut [u64],
-    ent: &mut [u64],
-) -> Answer
-    requires { ⌜ Formed (now source) (now ebits) (now eside) (now target) (now tbits) ⌝ }
-    requires { ⌜ now ws ≡ widths Graph.Target (length (now tbits)) [] (now target) ⌝ }
-    requires { ⌜ now cls ≡ replicate (rowCount Graph.Target (now target)) 0 ⌝ }
-    requires { ⌜ now ent ≡ replicate (rowCount Graph.Target (now target)) 0 ⌝ }
-    ensures answer { λ r. ⌜ r ≡ firstRefusal (matchAnswers (lowering (now (source .entry)) (now (ebits .entry)) (now (eside .entry)) (now (eroots .entry)) (now (map .entry)) (now (reads .entry)) (now (calls .entry)) (now (cargs .entry)) (now (target .entry)) (now (tbits .entry)) (now (troots .entry)))) ⌝ }
-    ensures class_list { λ r. ⌜ (isAccepted r ≡ true → now (cls .exit) ≡ classes (lowering (now (source .entry)) (now (ebits .entry)) (now (eside .entry)) (now (eroots .entry)) (now (map .entry)) (now (reads .entry)) (now (calls .entry)) (now (cargs .entry)) (now (target .entry)) (now (tbits .entry)) (now (troots .entry))) (rowCount Graph.Source (now (source .entry)))) ⌝ }
-    ensures entry_list { λ r. ⌜ (isAccepted r ≡ true → now (ent .exit) ≡ offsets (lowering (now (source .entry)) (now (ebits .entry)) (now (eside .entry)) (now (eroots .entry)) (now (map .entry)) (now (reads .entry)) (now (calls .entry)) (now (cargs .entry)) (now (target .entry)) (now (tbits .entry)) (now (troots .entry)))) ⌝ }
-{
-    let n = rows::row_count(Graph::Source, source);
-    if map.len() != n {
-        return Answer::MapLength(n as u64, map.len() as u64);
-    }
-    let t = entries(reads, calls, cargs, target, ws, cls, ent);
-    if !answers::is_accepted(t) {
-        return t;
-    }
-    let r = matching::ext_rows(
-        source,
-        ebits,
-        eside,
-        map,
-        reads,
-        calls,
-        cargs,
-        target,
-        tbits,
-        ent,
-        cls,
-    );
-    if !answers::is_accepted(r) {
-        return r;
-    }
-    let dead = matching::dead_entry(cls);
-    if dead < cls.len() as u64 {
-        return Answer::DeadEntry(dead);
-    }
-    roots(eroots, map, reads, calls, cargs, target, tbits, troots)
-}
-
-// The same in lists with room to spare, whatever they hold before; zeros after the last row.
-fn lowered(
-    source: &[u64],
-    ebits: &[u8],
-    eside: &[u64],
-    eroots: &[u64],
-    map: &[u64],
-    reads: &[u64],
-    calls: &[u64],
-    cargs: &[u64],
-    target: &[u64],
-    tbits: &[u8],
-    troots: &[u64],
-    ws: &[u64],
-    cls: &mut [u64],
-    ent: &mut [u64],
-) -> Answer
-    requires { ⌜ Formed (now source) (now ebits) (now eside) (now target) (now tbits) ⌝ }
-    requires { ⌜ now ws ≡ widths Graph.Target (length (now tbits)) [] (now target) ⌝ }
-    requires { ⌜ rowCount Graph.Target (now target) ≤ length (now cls) ⌝ }
-    requires { ⌜ rowCount Graph.Target (now target) ≤ length (now ent) ⌝ }
-    ensures answer { λ r. ⌜ r ≡ firstRefusal (matchAnswers (lowering (now (source .entry)) (now (ebits .entry)) (now (eside .entry)) (now (eroots .entry)) (now (map .entry)) (now (reads .entry)) (now (calls .entry)) (now (cargs .entry)) (now (target .entry)) (now (tbits .entry)) (now (troots .entry)))) ⌝ }
-    ensures class_list { λ r. ⌜ (isAccepted r ≡ true → now (cls .exit) ≡ classes (lowering (now (source .entry)) (now (ebits .entry)) (now (eside .entry)) (now (eroots .entry)) (now (map .entry)) (now (reads .entry)) (now (calls .entry)) (now (cargs .entry)) (now (target .entry)) (now (tbits .entry)) (now (troots .entry))) (rowCount Graph.Source (now (source .entry))) ++ replicate (length (now (cls .entry)) - rowCount Graph.Target (now (target .entry))) 0) ⌝ }
-    ensures entry_list { λ r. ⌜ (isAccepted r ≡ true → now (ent .exit) ≡ offsets (lowering (now (source .entry)) (now (ebits .entry)) (now (eside .entry)) (now (eroots .entry)) (now (map .entry)) (now (reads .entry)) (now (calls .entry)) (now (cargs .entry)) (now (target .entry)) (now (tbits .entry)) (now (troots .entry))) ++ replicate (length (now (ent .entry)) - rowCount Graph.Target (now (target .entry))) 0) ⌝ }
-{
-    lists::clear(cls);
-    lists::clear(ent);
-    let n = rows::row_count(Graph::Target, target);
-    matches(
-        source,
-        ebits,
-        eside,
-        eroots,
-        map,
-        reads,
-        calls,
-        cargs,
-        target,
-        tbits,
-        troots,
-        ws,
-        &mut cls[..n],
-        &mut ent[..n],
-    )
-}
-
-// Zeros in all four lists.
-fn clear_all(ws0: &mut [u64], ws1: &mut [u64], cls: &mut [u64], ent: &mut [u64])
-    ensures zeros { λ _. ⌜ now (ws0 .exit) ≡ replicate (length (now (ws0 .entry))) 0 ⌝ }
-    ensures zeros_1 { λ _. ⌜ now (ws1 .exit) ≡ replicate (length (now (ws1 .entry))) 0 ⌝ }
-    ensures zeros_2 { λ _. ⌜ now (cls .exit) ≡ replicate (length (now (cls .entry))) 0 ⌝ }
-    ensures zeros_3 { λ _. ⌜ now (ent .exit) ≡ replicate (length (now (ent .entry))) 0 ⌝ }
-{
-    lists::clear(ws0);
-    lists::clear(ws1);
-    lists::clear(cls);
-    lists::clear(ent);
-}
 
 // Whether the target is the lowering of the source, or the first refusal by 01's order; in the four lists the widths of both graphs, the classes and
 // the entry offsets.
@@ -315,9 +23,12 @@ pub fn check(
     cls: &mut [u64],
     ent: &mut [u64],
 ) -> Answer
-    ensures outcome { λ r. ⌜ outcome r (now (ws0 .exit)) (now (ws1 .exit)) (now (cls .exit)) (now (ent .exit)) ≡ check (lowering (now (source .entry)) (now (ebits .entry)) (now (eside .entry)) (now (eroots .entry)) (now (map .entry)) (now (reads .entry)) (now (calls .entry)) (now (cargs .entry)) (now (target .entry)) (now (tbits .entry)) (now (troots .entry))) (now (ws0 .entry)) (now (ws1 .entry)) (now (cls .entry)) (now (ent .entry)) ⌝ }
+    ensures outcome { λ r. ⌜ outcome r (now (ws0 .exit)) (now (ws1 .exit)) (now (cls .exit)) (now (ent .exit))
+        ≡ check (lowering (now (source .entry)) (now (ebits .entry)) (now (eside .entry)) (now (eroots .entry)) (now (map .entry))
+        (now (reads .entry)) (now (calls .entry)) (now (cargs .entry)) (now (target .entry)) (now (tbits .entry)) (now (troots .entry)))
+        (now (ws0 .entry)) (now (ws1 .entry)) (now (cls .entry)) (now (ent .entry)) ⌝ }
 {
-    let a = count_answer(
+    let a = stages::count_answer(
         source.len(),
         target.len(),
         ws0.len(),
@@ -328,13 +39,13 @@ pub fn check(
     if !answers::is_accepted(a) {
         return a;
     }
-    let g = graphs(source, ebits, eside, target, tbits, ws0, ws1);
+    let g = stages::graphs(source, ebits, eside, target, tbits, ws0, ws1);
     if !answers::is_accepted(g) {
-        clear_all(ws0, ws1, cls, ent);
+        stages::clear_all(ws0, ws1, cls, ent);
         return g;
     }
     let n = rows::row_count(Graph::Target, target);
-    let m = lowered(
+    let m = lowered::lowered(
         source,
         ebits,
         eside,
@@ -351,7 +62,7 @@ pub fn check(
         ent,
     );
     if !answers::is_accepted(m) {
-        clear_all(ws0, ws1, cls, ent);
+        stages::clear_all(ws0, ws1, cls, ent);
         return m;
     }
     lists::clear_from(ws0, rows::row_count(Graph::Source, source));

@@ -5,8 +5,9 @@ ghost use Rattle.widths.specs.Widths.{sourceWidths, targetWidths, rootsAnswer};
 ghost use Rattle.values.specs.Values.{values};
 ghost use Rattle.gilfrunt.specs.Exports.{result, resultOf, results, resultsOf, checked, checkedOf, judgement, judgementOf};
 ghost use Rattle.book.specs.Book.{sectionAnswer, sectionPlace};
-ghost use Rattle.judge.specs.Judge.{judge};
+ghost use Rattle.judge.specs.Judge.{held, judge};
 ghost use Rattle.lowering.specs.Check.{lowering, check};
+ghost use Rattle.soundness.specs.Sound.{Sound};
 use answers::Words;
 use book::Stretch;
 
@@ -72,6 +73,7 @@ pub extern "C" fn gilfrunt_check(
     entries: &mut [u64],
 ) -> Words
     ensures outcome { λ r. ⌜ checked r (now (ws0 .exit)) (now (ws1 .exit)) (now (classes .exit)) (now (entries .exit)) ≡ checkedOf (check (lowering (now (source .entry)) (now (ebits .entry)) (now (eside .entry)) (now (eroots .entry)) (now (map .entry)) (now (reads .entry)) (now (calls .entry)) (now (cargs .entry)) (now (target .entry)) (now (tbits .entry)) (now (troots .entry))) (now (ws0 .entry)) (now (ws1 .entry)) (now (classes .entry)) (now (entries .entry))) ⌝ }
+    ensures sound { λ r. ⌜ (r .number ≡ 0 → Sound (lowering (now (source .entry)) (now (ebits .entry)) (now (eside .entry)) (now (eroots .entry)) (now (map .entry)) (now (reads .entry)) (now (calls .entry)) (now (cargs .entry)) (now (target .entry)) (now (tbits .entry)) (now (troots .entry)))) ⌝ }
 {
     let a = checker::check(
         source,
@@ -119,6 +121,7 @@ pub extern "C" fn gilfrunt_judge(
     words: &mut [u64],
 ) -> Words
     ensures outcome { λ r. ⌜ judgement r (now (ws0 .exit)) (now (ws1 .exit)) (now (classes .exit)) (now (entries .exit)) (now (words .exit)) ≡ judgementOf (judge (now (book .entry)) (now (ws0 .entry)) (now (ws1 .entry)) (now (classes .entry)) (now (entries .entry)) (now (words .entry))) ⌝ }
+    ensures sound { λ r. ⌜ (r .number ≡ 0 → Sound (held (now (book .entry)))) ⌝ }
 {
     let a = judge::judge(book, ws0, ws1, classes, entries, words);
     answers::words_of(a)

@@ -5,9 +5,11 @@ ghost use lib.Dec.{ltb};
 ghost use lib.ListN.{length, drop, replicate};
 ghost use Rattle.book.specs.Book.{sections};
 ghost use Rattle.book.specs.Words.{Good, loaded};
-ghost use Rattle.answers.specs.Answer.{andThen};
+ghost use mathlib.Core.Bool.{true};
+ghost use Rattle.answers.specs.Answer.{andThen, isAccepted};
 ghost use Rattle.answers.specs.declared.Answer.the-variants.{WorkShort};
 ghost use Rattle.lowering.specs.Check.{outcome, check, refuse, firstRefusal, countAnswers};
+ghost use Rattle.soundness.specs.Sound.{Sound};
 ghost use Rattle.judge.specs.Judge.{held, bookWords, judged, judge, verdict};
 use answers::Answer;
 
@@ -16,7 +18,7 @@ fn room_answer(book: &[u8], w0: usize, w1: usize, c: usize, e: usize, room: usiz
     requires { ⌜ Good (now book) ⌝ }
     ensures answer { λ r. ⌜ r ≡ andThen (firstRefusal (countAnswers (held (now (book .entry)) .source) (held (now (book .entry)) .target) w0 w1 c e)) (refuse (ltb room (length (bookWords (now (book .entry))))) (WorkShort 5)) ⌝ }
 {
-    let a = checker::count_answer(
+    let a = stages::count_answer(
         book::word_count(book, 0),
         book::word_count(book, 8),
         w0,
@@ -121,6 +123,7 @@ pub fn judge(
 // The verdict on a whole input, with work lists that are long enough for every book of at most 65,536 bytes.
 pub fn verdict(book: &[u8]) -> Answer
     ensures answer { λ r. ⌜ r ≡ verdict (now (book .entry)) ⌝ }
+    ensures sound { λ r. ⌜ (isAccepted r ≡ true → Sound (held (now (book .entry)))) ⌝ }
 {
     if 65536 < book.len() {
         return Answer::BookShape(13);

@@ -1,11 +1,12 @@
 -- Laws of choices by a test, of two numbers in order, and strong induction. Assumes nothing.
 use Prim.Native.Nat.{ℕ, zero, suc, _<_, _≤_}
-use mathlib.Core.Path.{_≡_, refl}
-use mathlib.Core.Bool.{Bool, true, false, cond}
+use mathlib.Core.Path.{_≡_, refl, sym, _∙_}
+use mathlib.Core.Bool.{Bool, true, false, cond, not}
 use mathlib.Core.Logic.{_⊎_, inl, inr}
 use native.Mathlib.Decide.{decLt}
 use native.Mathlib.Nat.{not-suc-le-zero}
 use native.Mathlib.Omega.{arith}
+use borrow.Author.Tests.{not-true, not-false}
 
 pub no-way : {P : Type 0} → true ≡ false → P
 no-way e = let z : _≡_ {A = ℕ} 0 1 = cc in absurd (omega arith)
@@ -32,6 +33,18 @@ lt-or-ge a b = go (decLt a b)
 pub last-test : (b : Bool) → b ≡ cond b true false
 last-test true = refl
 last-test false = refl
+
+-- a choice of one thing
+pub cond-same : {A : Type 0} (b : Bool) (x : A) → cond b x x ≡ x
+cond-same true x = refl
+cond-same false x = refl
+
+-- a test's value, from the test's outcome in code
+pub tested-no : (x y : Bool) → x ≡ y → not x ≡ true → y ≡ false
+tested-no x y e h = sym e ∙ not-true x h
+
+pub tested-yes : (x y : Bool) → x ≡ y → not x ≡ false → y ≡ true
+tested-yes x y e h = sym e ∙ not-false x h
 
 -- P holds at i where it holds at all below
 pub strong : (P : ℕ → Type 0) → ((i : ℕ) → ((j : ℕ) → j < i → P j) → P i) → (i : ℕ) → P i

@@ -1,18 +1,18 @@
--- Laws of several tests at once, of sequences and of a list's elements. Assumes nothing.
-use Prim.Native.Nat.{ℕ, zero, suc, _<_, _≤_}
-use mathlib.Core.Path.{_≡_, refl, ap}
+-- Laws of several tests at once, of sequences, of a list's elements and of a stretch that lies in a list. Assumes nothing.
+use Prim.Native.Nat.{ℕ, zero, suc, _+_, _-_, _<_, _≤_}
+use mathlib.Core.Path.{_≡_, refl, sym, ap}
 use mathlib.Core.Bool.{Bool, true, false, not}
 use mathlib.Core.List.{List, [], _∷_}
 use mathlib.Core.Logic.{⊎-elim}
 use native.Mathlib.Nat.{not-suc-le-zero, le-of-suc-le-suc}
 use native.Mathlib.Omega.{arith}
-use borrow.Author.Tests.{eq-eqb, ne-eqb, eqb-true, not-false}
-use lib.Dec.{eqb}
+use borrow.Author.Tests.{eq-eqb, ne-eqb, eqb-true, leb-true, leb-false, le-leb, lt-leb, not-false}
+use lib.Dec.{eqb, leb}
 use lib.ListN.{length, getD, List·getD-eq-default}
 use Rattle.lists.specs.Tests.{all, agree}
 use Rattle.lists.specs.Trace.{tabulate}
 use Rattle.lists.proofs.First.{none-at, none-yes, none-no}
-use Rattle.lists.proofs.Choice.{both, lt-or-ge}
+use Rattle.lists.proofs.Choice.{both, lt-or-ge, tested-yes}
 
 -- each test of a list passes
 abbrev pub Alls : List Bool → Type 0
@@ -47,6 +47,20 @@ getD-any (x ∷ xs) d e (suc i) h = getD-any xs d e i (le-of-suc-le-suc h)
 -- what holds of 0 and of each element holds at every place
 pub getD-every : (l : List ℕ) (P : ℕ → Type 0) → P 0 → ((k : ℕ) → k < length l → P (getD l k 0)) → (k : ℕ) → P (getD l k 0)
 getD-every l P z h k = ⊎-elim (h k) (λ (past : length l ≤ k). rw (List·getD-eq-default l 0 past) z) (lt-or-ge k (length l))
+
+-- k words from o on in a list of n: it is too short, it has room for them, they are in it
+pub within-short : (n o k : ℕ) → n < k → leb (o + k) n ≡ false
+within-short n o k h = lt-leb (o + k) n (omega arith)
+
+pub within-rest : (n o k : ℕ) → k ≤ n → leb o (n - k) ≡ leb (o + k) n
+within-rest n o k h = go (leb o (n - k)) refl
+  where
+    go : (b : Bool) → leb o (n - k) ≡ b → b ≡ leb (o + k) n
+    go true e = let l = leb-true o (n - k) e in sym (le-leb (o + k) n (omega arith))
+    go false e = let l = leb-false o (n - k) e in sym (lt-leb (o + k) n (omega arith))
+
+pub within-le : (n o k : ℕ) (x : Bool) → x ≡ leb (o + k) n → not x ≡ false → o + k ≤ n
+within-le n o k x e h = leb-true (o + k) n (tested-yes x _ e h)
 
 -- a table of equal values, and back
 pub tabulate-same : {A : Type 0} (f g : ℕ → A) (n : ℕ) → ((k : ℕ) → k < n → f k ≡ g k) → tabulate f n ≡ tabulate g n

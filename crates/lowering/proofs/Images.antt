@@ -1,147 +1,20 @@
--- Laws of rows: what a row that passes a test says. Assumes nothing.
-use Prim.Native.Nat.{ℕ, _<_}
-use mathlib.Core.Path.{_≡_, refl, _∙_}
-use mathlib.Core.Bool.{Bool, true, false, cond}
+-- What a constant's row says. Assumes nothing.
+use Prim.Native.Nat.{ℕ}
+use mathlib.Core.Path.{_≡_}
+use mathlib.Core.Bool.{true}
 use mathlib.Core.List.{List}
-use native.Mathlib.Omega.{arith}
-use borrow.Author.Tests.{eqb-true, ltb-true, lt-ltb, ne-eqb}
-use lib.Dec.{eqb}
+use borrow.Author.Tests.{eqb-true}
 use lib.ListN.{getD}
-use Rattle.lists.proofs.Choice.{both}
-use Rattle.lists.proofs.Tests.{all-true, agree-at}
-use Rattle.bitwise.proofs.Digits.{ofBits-cong}
-use Rattle.rows.specs.declared.Graph.the-variants.{Target}
-use Rattle.rows.specs.declared.Node.{Node}
-use Rattle.rows.specs.declared.Node.the-variants.{Var, Const, Un, Bin, Extract, Extend, Ite, Select, Call, Unknown}
-use Rattle.rows.specs.Row.{rowCount, rowAt}
-use Rattle.rows.specs.Tags.{tVar, tConst, tZeroExt, tSignExt, tIte, tEq, tNot, tBoolAnd, tBoolOr, tBvNot, tNeg, tSelect, tCall, isUn, isExtend}
-use Rattle.rows.specs.Node.{nodeFrom, nodeOf, rowEq, TagGood, BinTag}
-use Rattle.value.specs.Operate.{parameters, constNumber}
-use Rattle.lowering.specs.Images.{mapNode, rowOf, rowIs, tagAt, fieldAt, bothConst, sameConst}
-use Rattle.lowering.specs.Matching.{isEq, isLevel}
+use Rattle.lists.proofs.Tests.{all-true}
+use Rattle.rows.specs.declared.Node.the-variants.{Const}
+use Rattle.rows.specs.Tags.{tConst}
+use Rattle.rows.specs.Node.{nodeOf}
+use Rattle.lowering.specs.Images.{bothConst}
 
--- one of two, where the test of either passes
-pub one-of : (P : ℕ → Type 0) (t a b : ℕ) → P a → P b → cond (eqb t a) true (eqb t b) ≡ true → P t
-one-of P t a b x y e = go (eqb t a) refl e
-  where
-    go : (c : Bool) → eqb t a ≡ c → cond c true (eqb t b) ≡ true → P t
-    go true q f = rw (eqb-true t a q) x
-    go false q f = rw (eqb-true t b f) y
-
--- what holds of each tag of one operand holds of them all, and so for the extensions
-pub un-tags : (P : ℕ → Type 0) (t : ℕ) → P tNot → P tBvNot → P tNeg → isUn t ≡ true → P t
-un-tags P t x y z e = go (eqb t tNot) refl e
-  where
-    go : (c : Bool) → eqb t tNot ≡ c → cond c true (cond (eqb t tBvNot) true (eqb t tNeg)) ≡ true → P t
-    go true q f = rw (eqb-true t tNot q) x
-    go false q f = one-of P t tBvNot tNeg y z f
-
-pub extend-tags : (P : ℕ → Type 0) (t : ℕ) → P tZeroExt → P tSignExt → isExtend t ≡ true → P t
-extend-tags P t x y e = one-of P t tZeroExt tSignExt x y e
-
--- a node is read off its words again
-of-words : (node : Node) → TagGood node → nodeOf (rowOf node) ≡ node
-of-words (Var w) g = refl
-of-words (Const s w) g = refl
-of-words (Un t a) g = un-tags (λ t. nodeFrom t a 0 0 0 ≡ Un t a) t refl refl refl g
-of-words (Bin t a b) g =
-    rw (
-      g .no-var,
-      g .no-const,
-      g .no-extract,
-      g .no-extend,
-      g .no-ite,
-      g .no-un,
-      ne-eqb t tSelect (λ z. omega (arith, g .core)),
-      ne-eqb t tCall (λ z. omega (arith, g .core)),
-      lt-ltb t tSelect (g .core),
-    )
-of-words (Extract h l a) g = refl
-of-words (Extend t a n) g = extend-tags (λ t. nodeFrom t a n 0 0 ≡ Extend t a n) t refl refl g
-of-words (Ite c t e) g = refl
-of-words (Select a j s k) g = refl
-of-words (Call f w s k) g = refl
-of-words Unknown g = refl
-
--- two rows that are one have one node
-same-words : (r s : List ℕ) → rowEq r s ≡ true → nodeOf r ≡ nodeOf s
-same-words r s e =
-    let (a, f) = both _ _ e in
-    let (b, g) = both _ _ f in
-    let (c, h) = both _ _ g in
-    let (d, k) = both _ _ h in
-    rw (
-      eqb-true (getD r 0 0) (getD s 0 0) a,
-      eqb-true (getD r 1 0) (getD s 1 0) b,
-      eqb-true (getD r 2 0) (getD s 2 0) c,
-      eqb-true (getD r 3 0) (getD s 3 0) d,
-      eqb-true (getD r 4 0) (getD s 4 0) k,
-    )
-
--- a row that is a node
-pub row-is : (r : List ℕ) (node : Node) → TagGood node → rowIs r node ≡ true → nodeOf r ≡ node
-unfolding rowIs
-row-is r node g e = same-words r (rowOf node) e ∙ of-words node g
-
--- a good tag stays one where the operands are mapped
-pub map-good : (map : List ℕ) (node : Node) → TagGood node → TagGood (mapNode map node)
-map-good map (Var w) g = tt
-map-good map (Const s w) g = tt
-map-good map (Un t a) g = g
-map-good map (Bin t a b) g = g
-map-good map (Extract h l a) g = tt
-map-good map (Extend t a n) g = g
-map-good map (Ite c t e) g = tt
-map-good map (Select a j s k) g = tt
-map-good map (Call f w s k) g = tt
-map-good map Unknown g = tt
-
--- a row with a tag of its own shape
+-- a row with a constant's tag
 pub const-row : (r : List ℕ) → getD r 0 0 ≡ tConst → nodeOf r ≡ Const (getD r 1 0) (getD r 2 0)
 const-row r e = rw e
-
-pub var-row : (r : List ℕ) → getD r 0 0 ≡ tVar → nodeOf r ≡ Var (getD r 1 0)
-var-row r e = rw e
 
 pub both-const : (r q : List ℕ) → bothConst r q ≡ true → (getD r 0 0 ≡ tConst) × (getD q 0 0 ≡ tConst)
 unfolding bothConst
 both-const r q e = let (a, (b, _)) = all-true _ e in (eqb-true _ _ a, eqb-true _ _ b)
-
--- two constants of one width and bits, each in its own list of bits
-pub same-const : (b c r q : List ℕ) → sameConst b r c q ≡ true
-    → (nodeOf r ≡ Const (getD r 1 0) (getD r 2 0)) × (nodeOf q ≡ Const (getD q 1 0) (getD q 2 0)) × (parameters b (nodeOf r) ≡ parameters c (nodeOf q))
-unfolding sameConst
-same-const b c r q e =
-    let (k, (w, (s, _))) = all-true _ e in
-    let (x, y) = both-const r q k in
-    let v : getD r 2 0 ≡ getD q 2 0 = eqb-true _ _ w in
-    let n : constNumber b (getD r 1 0) (getD r 2 0) ≡ constNumber c (getD q 1 0) (getD r 2 0) = ofBits-cong (getD r 2 0) _ _ (agree-at _ _ (getD r 2 0) s) in
-    (const-row r x, const-row q y, rw (const-row r x, const-row q y, n, v))
-
--- rows of a target, by their number
-module _ (target : List ℕ) where
-  pub eq-row : (a b r : ℕ) → isEq target a b r ≡ true → (r < rowCount Target target) × (nodeOf (rowAt Target target r) ≡ Bin tEq a b)
-  unfolding isEq
-  eq-row a b r e =
-      let (x, (y, _)) = all-true _ e in
-      (ltb-true _ _ x, row-is (rowAt Target target r) (Bin tEq a b) eq-tag y)
-    where
-      eq-tag : BinTag tEq
-      eq-tag = record { no-var = refl; no-const = refl; no-extract = refl; no-extend = refl; no-ite = refl; no-un = refl; core = omega arith }
-
-  -- one level of a walk: the rest is the row's third field
-  pub ite-row : (a b v r : ℕ) → isLevel target a b v r ≡ true
-      → (r < rowCount Target target) × (nodeOf (rowAt Target target r) ≡ Ite (fieldAt target r 1) v (fieldAt target r 3)) × (isEq target a b (fieldAt target r 1) ≡ true)
-  unfolding isLevel
-  ite-row a b v r e =
-      let (x, (y, (z, (q, _)))) = all-true _ e in
-      (ltb-true _ _ x, rw (eqb-true (tagAt target r) tIte y, eqb-true (fieldAt target r 2) v z), q)
-
-  pub and-row : (r : ℕ) → eqb (tagAt target r) tBoolAnd ≡ true → nodeOf (rowAt Target target r) ≡ Bin tBoolAnd (fieldAt target r 1) (fieldAt target r 2)
-  and-row r e = rw (eqb-true (tagAt target r) tBoolAnd e)
-
-  pub or-row : (r : ℕ) → eqb (tagAt target r) tBoolOr ≡ true → nodeOf (rowAt Target target r) ≡ Bin tBoolOr (fieldAt target r 1) (fieldAt target r 2)
-  or-row r e = rw (eqb-true (tagAt target r) tBoolOr e)
-
-  pub not-row : (r : ℕ) → eqb (tagAt target r) tNot ≡ true → nodeOf (rowAt Target target r) ≡ Un tNot (fieldAt target r 1)
-  not-row r e = rw (eqb-true (tagAt target r) tNot e)

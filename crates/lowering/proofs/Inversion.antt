@@ -1,20 +1,19 @@
--- An accepted Check has passed each of its tests. Assumes nothing.
+-- What a first refusal that is none says of the answers, a search that found nothing of its tests. Assumes nothing.
 use Prim.Native.Nat.{ℕ, zero, suc, _<_}
 use mathlib.Core.Path.{_≡_, refl, sym, _∙_}
 use mathlib.Core.Bool.{Bool, true, false, cond, not}
-use mathlib.Core.List.{List, [], _∷_, _++_}
+use mathlib.Core.List.{List, [], _∷_}
 use native.Mathlib.Omega.{arith}
-use borrow.Author.Tests.{eqb-true, ltb-true, ltb-false, not-true, not-false}
+use borrow.Author.Tests.{ltb-true, ltb-false, not-true, not-false}
 use lib.Dec.{ltb}
-use lib.ListN.{length, getD}
+use lib.ListN.{getD}
 use Rattle.answers.specs.declared.Answer.{Answer}
 use Rattle.answers.specs.declared.Answer.the-variants.{Accepted}
 use Rattle.answers.specs.Answer.{isAccepted}
 use Rattle.lists.specs.First.{first}
 use Rattle.lists.proofs.Choice.{no-way}
 use Rattle.lists.proofs.First.{first-hit, first-before}
-use Rattle.lowering.specs.Check.{Lowering, sourceRows, sourceIll, targetIll, answerOf, refuse, firstRefusal, countAnswers, graphAnswers, matchAnswers, Accepts}
-use Rattle.lowering.proofs.Passed.{Passed}
+use Rattle.lowering.specs.Check.{refuse, firstRefusal}
 
 -- where the first refusal is none, each answer accepts
 pub each-accepted : (l : List Answer) → isAccepted (firstRefusal l) ≡ true → (k : ℕ) → isAccepted (getD l k Accepted) ≡ true
@@ -47,33 +46,3 @@ pub first-refused : (f : ℕ → Answer) (n : ℕ) (b : Bool) → ltb (first (λ
 first-refused f n true e a =
     not-refused true (f (first (λ k. not (isAccepted (f k))) n)) (not-true _ (first-hit (λ k. not (isAccepted (f k))) n (ltb-true _ _ e))) a
 first-refused f n false e a = refl
-
-module _ (L : Lowering) (ws0 ws1 cls ent : List ℕ) (accepts : Accepts L ws0 ws1 cls ent) where
-  -- the answers in their order; answer k, counted from 0, accepts
-  abbrev answers : List Answer
-  answers =
-      countAnswers (L .source) (L .target) (length ws0) (length ws1) (length cls) (length ent)
-      ++ (graphAnswers (L .source) (L .ebits) (L .target) (L .tbits) (sourceIll L) (targetIll L) ++ matchAnswers L)
-
-  answer : (k : ℕ) → isAccepted (getD answers k Accepted) ≡ true
-  answer k = each-accepted _ accepts k
-
-  pub passed : Passed L
-  passed =
-      record {
-        source-rows = ltb-false _ _ (not-refused _ _ refl (answer 6));
-        target-rows = ltb-false _ _ (not-refused _ _ refl (answer 7));
-        source-bits = ltb-false _ _ (not-refused _ _ refl (answer 8));
-        target-bits = ltb-false _ _ (not-refused _ _ refl (answer 9));
-        source-formed = ltb-false _ _ (not-refused _ _ refl (answer 10));
-        target-formed = ltb-false _ _ (not-refused _ _ refl (answer 11));
-        map-length = eqb-true _ _ (not-false _ (not-refused _ _ refl (answer 12)));
-        reads = all-pass _ _ (not-refused _ _ refl (answer 13));
-        calls = all-pass _ _ (not-refused _ _ refl (answer 14));
-        rows = all-pass _ _ (first-refused (answerOf L) (sourceRows L) _ refl (answer 15));
-        live = all-fail _ _ (not-refused _ _ refl (answer 16));
-        leading = all-pass _ _ (not-refused _ _ refl (answer 17));
-        read-roots = all-pass _ _ (not-refused _ _ refl (answer 18));
-        call-roots = all-pass _ _ (not-refused _ _ refl (answer 19));
-        roots-end = eqb-true _ _ (not-false _ (not-refused _ _ refl (answer 20)));
-      }

@@ -1,7 +1,6 @@
 -- The operation Check (01, 'Operations and what they refuse'): its answer, and the four lists that it leaves. Assumes nothing.
 use Prim.Native.Nat.{ℕ, _+_}
-use mathlib.Core.Path.{_≡_}
-use mathlib.Core.Bool.{Bool, true, not, cond}
+use mathlib.Core.Bool.{Bool, not, cond}
 use mathlib.Core.List.{List, [], _∷_, _++_}
 use lib.Dec.{eqb, ltb}
 use lib.ListN.{length, replicate}
@@ -188,7 +187,3 @@ abbrev pub check : Lowering → List ℕ → List ℕ → List ℕ → List ℕ 
 check L ws0 ws1 cls ent =
     let a = checkAnswer L (length ws0) (length ws1) (length cls) (length ent) in
     outcome a (lent a ws0 (sourceWidths L)) (lent a ws1 (targetWidths L)) (lent a cls (classes L (sourceRows L))) (lent a ent (offsets L))
-
--- "The checker accepts when Check's number is 0"
-abbrev pub Accepts : Lowering → List ℕ → List ℕ → List ℕ → List ℕ → Type 0
-Accepts L ws0 ws1 cls ent = isAccepted (check L ws0 ws1 cls ent .answer) ≡ true

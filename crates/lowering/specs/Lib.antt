@@ -3,5 +3,3 @@ pub mod Tables
 pub mod Matching
 pub mod Roots
 pub mod Check
-pub mod Transfer
-pub mod Sound

@@ -16,7 +16,9 @@ use Rattle.rows.specs.Node.{nodeOf}
 use Rattle.wf.specs.Promise.{RowFormed}
 use Rattle.wf.specs.Widths.{widths}
 use Rattle.lowering.specs.Matching.{matched}
-use Rattle.matching.specs.Ready.{PairsWithin, ArgsWithin, Formed}
+use Rattle.chains.specs.Ready.{PairsWithin}
+use Rattle.applied.specs.Ready.{ArgsWithin}
+use Rattle.matching.specs.Ready.{Formed}
 use Rattle.matching.proofs.Rows.{Plain, const-bits, select-earlier, select-pairs, call-args, plain, accepted-matched}
 
 -- row i of the source, with the words e

@@ -147,7 +147,3 @@ module _ (source ebits eside map reads calls cargs target tbits ent cls : List �
 pub accepted-matched : (b : Bool) (a : Answer) → isAccepted a ≡ false → isAccepted (matched b a) ≡ b
 accepted-matched true a h = refl
 accepted-matched false a h = h
-
-pub cond-same : {A : Type 0} (b : Bool) (x : A) → cond b x x ≡ x
-cond-same true x = refl
-cond-same false x = refl

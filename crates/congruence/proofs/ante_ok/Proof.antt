@@ -7,7 +7,8 @@ use borrow.Author.Needs.{needs}
 use borrow.Author.Tests.{eq-eqb, ne-eqb, not-true, not-false}
 use lib.ListN.{getD}
 use Rattle.lowering.specs.Roots.{allEqual}
-use Rattle.congruence.proofs.Shape.{all-out, all-one, all-tag, all-last, all-rest}
+use Rattle.pairs.proofs.Shape.{all-out}
+use Rattle.congruence.proofs.Nest.{all-one, all-tag, all-last, all-rest}
 use Rattle.congruence.proofs.ante_ok.Statement.{statement}
 use Rattle.congruence.proofs.ante_ok.Tie as tie
 

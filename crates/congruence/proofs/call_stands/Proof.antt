@@ -9,7 +9,7 @@ use borrow.Author.Tests.{lt-ltb, le-ltb}
 use Rattle.lists.specs.Tests.{all}
 use Rattle.lowering.specs.Roots.{congruent}
 use Rattle.lists.proofs.Choice.{last-test}
-use Rattle.congruence.proofs.Shape.{by-antecedent}
+use Rattle.pairs.proofs.Shape.{by-antecedent}
 use borrow.Author.Needs.{needs}
 use Rattle.congruence.proofs.call_stands.Statement.{statement}
 use Rattle.congruence.proofs.call_stands.Tie as tie

@@ -7,8 +7,8 @@ use borrow.Author.Needs.{needs}
 use borrow.Author.Tests.{not-true, not-false}
 use Rattle.lowering.specs.Tables.{callCount, sameFunction}
 use Rattle.lowering.specs.Roots.{pairs, callRoot}
-use Rattle.congruence.specs.Walk.{walked}
-use Rattle.congruence.proofs.Walk.{table-end, table-on, table-stop}
+use Rattle.pairs.specs.Walk.{walked}
+use Rattle.pairs.proofs.Walk.{table-end, table-on, table-stop}
 use Rattle.congruence.proofs.uf_cong.Statement.{statement}
 use Rattle.congruence.proofs.uf_cong.Tie as tie
 

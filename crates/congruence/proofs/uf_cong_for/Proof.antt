@@ -9,8 +9,8 @@ use lib.ListN.{length}
 use Rattle.lists.proofs.Tests.{all-true}
 use Rattle.lowering.specs.Tables.{callCount, callStart, argCount, sameFunction}
 use Rattle.lowering.specs.Roots.{pair, pairsWith, callRoot, rootAt}
-use Rattle.congruence.specs.Walk.{walked}
-use Rattle.congruence.proofs.Walk.{row-end, row-skip, row-on, row-stop, root-inside}
+use Rattle.pairs.specs.Walk.{walked}
+use Rattle.pairs.proofs.Walk.{row-end, row-skip, row-on, row-stop, root-inside}
 use Rattle.congruence.proofs.uf_cong_for.Statement.{statement}
 use Rattle.congruence.proofs.uf_cong_for.Tie as tie
 

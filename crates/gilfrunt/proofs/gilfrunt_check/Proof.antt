@@ -1,6 +1,11 @@
--- `gilfrunt::gilfrunt_check` meets its contract. Assumes nothing.
+-- Check's outcome in words; its acceptance is sound, since owning the target's slice bounds its length. Assumes nothing.
+use Prim.Native.Nat.{_≤_}
 use mathlib.Core.Path.{ap}
+use native.Mathlib.Omega.{arith}
+use lib.ListN.{length}
+use Rattle.lowering.specs.Images.{MAX}
 use Rattle.gilfrunt.specs.Exports.{checkedOf}
+use Rattle.gilfrunt.proofs.Sound.{check-sound}
 use borrow.Author.Needs.{needs}
 use Rattle.gilfrunt.proofs.gilfrunt_check.Statement.{statement}
 use Rattle.gilfrunt.proofs.gilfrunt_check.Tie as tie
@@ -23,8 +28,24 @@ same-length-3 c = search needs
 same-length-4 : tie.Need-same-length-4
 same-length-4 c = search needs
 
+-- the call's place, and the entry's
+abbrev call : tie.After-words-of → tie.After-check
+call c = c .before .before .before .before .before .before .before .before .before
+
+abbrev entry : tie.After-check → tie.Start
+entry c = c .before .before .before .before .before .before .before .before .before .before .before .before .before .before .before .before .before .before .before .before
+
+-- owning the target's slice bounds its length
+slice : (c : tie.Start) → length (c .args .target .now) ≤ MAX
+slice c = omega (arith, c .good .1 .1 .1 .1 .1 .1 .1 .1 .0 .0)
+
 returns : tie.Need-returns
-returns c = rw (c .words-of .ensures) (ap checkedOf (c .before .before .before .before .before .before .before .before .before .check .ensures))
+returns c =
+    let w = c .words-of .ensures in
+    let o = call c .check .ensures in
+    let s = entry (call c) in
+    let k = s .args in
+    (rw w (ap checkedOf o), check-sound _ _ w (k .ws0 .now) (k .ws1 .now) (k .classes .now) (k .entries .now) _ _ _ _ _ (slice s) o)
 
 pub gilfrunt-check-spec : {M : Type 1} → statement M
 gilfrunt-check-spec =

@@ -1,6 +1,11 @@
--- `gilfrunt::gilfrunt_judge` meets its contract. Assumes nothing.
+-- A book's verdict in words; its acceptance is sound, since owning the book's slice bounds its target's length. Assumes nothing.
+use Prim.Native.Nat.{_≤_}
 use mathlib.Core.Path.{ap}
+use native.Mathlib.Omega.{arith}
+use lib.ListN.{length}
+use Rattle.lowering.specs.Images.{MAX}
 use Rattle.gilfrunt.specs.Exports.{judgementOf}
+use Rattle.gilfrunt.proofs.Sound.{book-sound}
 use borrow.Author.Needs.{needs}
 use Rattle.gilfrunt.proofs.gilfrunt_judge.Statement.{statement}
 use Rattle.gilfrunt.proofs.gilfrunt_judge.Tie as tie
@@ -26,8 +31,24 @@ same-length-4 c = search needs
 same-length-5 : tie.Need-same-length-5
 same-length-5 c = search needs
 
+-- the call's place, and the entry's
+abbrev call : tie.After-words-of → tie.After-judge
+call c = c .before .before .before .before .before .before .before .before .before .before .before
+
+abbrev entry : tie.After-judge → tie.Start
+entry c = c .before .before .before .before .before .before .before .before .before .before .before .before
+
+-- owning the book's slice bounds its length
+slice : (c : tie.Start) → length (c .args .book .now) ≤ MAX
+slice c = omega (arith, c .good .0 .0)
+
 returns : tie.Need-returns
-returns c = rw (c .words-of .ensures) (ap judgementOf (c .before .before .before .before .before .before .before .before .before .before .before .judge .ensures))
+returns c =
+    let w = c .words-of .ensures in
+    let o = call c .judge .ensures in
+    let s = entry (call c) in
+    let k = s .args in
+    (rw w (ap judgementOf o), book-sound _ _ w (k .ws0 .now) (k .ws1 .now) (k .classes .now) (k .entries .now) _ _ _ _ (k .book .now) (k .words .now) _ (slice s) o)
 
 pub gilfrunt-judge-spec : {M : Type 1} → statement M
 gilfrunt-judge-spec =

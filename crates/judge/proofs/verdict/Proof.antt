@@ -3,12 +3,16 @@ use mathlib.Core.Path.{ap, _∙_}
 use native.Mathlib.Omega.{arith}
 use Rattle.judge.specs.Judge.{Judged}
 use Rattle.judge.proofs.Room.{too-long, verdict-is}
+use Rattle.judge.proofs.Sound.{verdict-sound}
 use borrow.Author.Needs.{needs}
 use Rattle.judge.proofs.verdict.Statement.{statement}
 use Rattle.judge.proofs.verdict.Tie as tie
 
 returns : tie.Need-returns
-returns c = too-long (c .before .before .args .book .now) (c .if1 .taken)
+returns c =
+    let s = c .before .before in
+    let e = too-long (s .args .book .now) (c .if1 .taken) in
+    (e, verdict-sound (s .args .book .now) (omega (arith, s .good .0)) _ e)
 
 slice-aggregate-judge : tie.Need-slice-aggregate-judge
 slice-aggregate-judge c = search needs
@@ -30,8 +34,9 @@ judge-requires c κs = search needs
 
 returns-2 : tie.Need-returns-2
 returns-2 c =
-    let s = c .before .before .before .before .before .before .before .before .before .before .before .before .before .args in
-    ap (λ (o : Judged). o .answer) (c .before .before .before .before .before .judge .ensures) ∙ verdict-is (s .book .now) _ _ _ _ _ (omega arith) (omega arith) (omega arith) (omega arith) (omega arith) (c .before .before .before .before .before .before .before .before .before .before .before .if1 .left)
+    let s = c .before .before .before .before .before .before .before .before .before .before .before .before .before in
+    let e = ap (λ (o : Judged). o .answer) (c .before .before .before .before .before .judge .ensures) ∙ verdict-is (s .args .book .now) _ _ _ _ _ (omega arith) (omega arith) (omega arith) (omega arith) (omega arith) (c .before .before .before .before .before .before .before .before .before .before .before .if1 .left) in
+    (e, verdict-sound (s .args .book .now) (omega (arith, s .good .0)) _ e)
 
 pub verdict-spec : {M : Type 1} → statement M
 verdict-spec =

@@ -1,7 +1,6 @@
 -- `matching::const_corr` meets its contract. Assumes nothing.
 use mathlib.Core.Path.{_∙_}
 use borrow.Author.Needs.{needs}
-use borrow.Author.Needs.{needs}
 use Rattle.matching.proofs.const_corr.Statement.{statement}
 use Rattle.matching.proofs.const_corr.Tie as tie
 

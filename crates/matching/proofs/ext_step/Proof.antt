@@ -3,7 +3,6 @@ use mathlib.Core.Path.{refl, sym, _∙_}
 use borrow.Author.Tests.{lt-ltb, le-ltb, eq-eqb, ne-eqb}
 use Rattle.lowering.specs.Matching.{rowAnswer, rowClasses}
 use borrow.Author.Needs.{needs}
-use borrow.Author.Needs.{needs}
 use Rattle.matching.proofs.ext_step.Statement.{statement}
 use Rattle.matching.proofs.ext_step.Tie as tie
 

@@ -3,7 +3,6 @@ use mathlib.Core.Path.{_∙_}
 use Rattle.lowering.specs.Images.{rowIs}
 use Rattle.lowering.specs.Matching.{nodeMatches}
 use borrow.Author.Needs.{needs}
-use borrow.Author.Needs.{needs}
 use Rattle.matching.proofs.node_corr.Statement.{statement}
 use Rattle.matching.proofs.node_corr.Tie as tie
 

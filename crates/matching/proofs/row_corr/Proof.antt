@@ -1,11 +1,11 @@
 -- `matching::row_corr` meets its contract: the tag word says which rule the row has. Assumes nothing.
 use mathlib.Core.Path.{refl, sym}
 use Rattle.answers.specs.declared.Answer.the-variants.{VarClass, ConstMismatch, NodeMismatch, ChainMismatch, CallMismatch}
+use Rattle.lists.proofs.Choice.{cond-same}
 use Rattle.rows.specs.declared.Graph.the-variants.{Source}
 use Rattle.rows.specs.Row.{rowAt}
-use Rattle.matching.proofs.Rows.{var-answer, var-classes, const-answer, const-classes, select-answer, select-classes, call-answer, call-classes, plain-answer, plain-classes, cond-same}
+use Rattle.matching.proofs.Rows.{var-answer, var-classes, const-answer, const-classes, select-answer, select-classes, call-answer, call-classes, plain-answer, plain-classes}
 use Rattle.matching.proofs.Outcome.{consts-target, const-ready, select-ready, call-ready, plain-ready, outcome}
-use borrow.Author.Needs.{needs}
 use borrow.Author.Needs.{needs}
 use Rattle.matching.proofs.row_corr.Statement.{statement}
 use Rattle.matching.proofs.row_corr.Tie as tie

@@ -2,9 +2,8 @@
 use mathlib.Core.Path.{refl}
 use borrow.Author.Tests.{eq-eqb, ne-eqb}
 use Rattle.lists.specs.Tests.{all}
+use Rattle.lists.proofs.Choice.{tested-no, tested-yes}
 use Rattle.lowering.specs.Matching.{varMatches}
-use Rattle.matching.proofs.Laws.{tested-no, tested-yes}
-use borrow.Author.Needs.{needs}
 use borrow.Author.Needs.{needs}
 use Rattle.matching.proofs.var_corr.Statement.{statement}
 use Rattle.matching.proofs.var_corr.Tie as tie

@@ -1,0 +1,13 @@
+-- `chains::read_class` meets its contract. Assumes nothing.
+use borrow.Author.Tests.{eq-eqb, ne-eqb}
+use Rattle.chains.proofs.read_class.Statement.{statement}
+use Rattle.chains.proofs.read_class.Tie as tie
+
+returns : tie.Need-returns
+returns c = rw (eq-eqb _ _ (c .if1 .taken))
+
+returns-2 : tie.Need-returns-2
+returns-2 c = rw (ne-eqb _ _ (c .if1 .left))
+
+pub read-class-spec : {M : Type 1} → statement M
+read-class-spec = tie.close (tie.spec returns returns-2)

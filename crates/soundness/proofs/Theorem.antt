@@ -1,0 +1,44 @@
+-- READ THIS FIRST: what it means that Check accepts. The names are those of specs/ (Sound and crates/meaning: what graphs mean; Transfer: the
+-- assignment and the interpretation that are found) and of crates/lowering (Check: the operation's answer). docs/PROOF.md tells the argument.
+-- Assumes that Check accepts, whatever lists are lent, and that the target has no more words than a slice can have. Nothing else.
+use Prim.Native.Nat.{ℕ, _≤_}
+use mathlib.Core.Logic.{_↔_}
+use mathlib.Core.List.{List}
+use lib.ListN.{length}
+use Rattle.value.specs.Graph.{Assigns}
+use Rattle.meaning.specs.Meaning.{Interpretation, OfKind}
+use Rattle.lowering.specs.Images.{MAX}
+use Rattle.lowering.specs.Check.{Lowering}
+use Rattle.soundness.specs.Sound.{Accepts, Sound, ImagesAgree, SourceTrue, TargetTrue, SourceIsSatisfiable, TargetIsSatisfiable}
+use Rattle.soundness.specs.Transfer.{assignment, interpretation}
+use Rattle.soundness.proofs.Passed.{passed}
+use Rattle.soundness.proofs.Accepted.{zeros, zero-interpretation, zeros-fit, zero-fits, passed-forward, passed-backward}
+
+module _ (L : Lowering) (ws0 ws1 cls ent : List ℕ) (slice : length (L .target) ≤ MAX) (accepts : Accepts L ws0 ws1 cls ent) where
+  -- 1. Forward, along a given assignment for what the lowering leaves free: the assignment that belongs to an interpretation
+  pub forward-along : (I : Interpretation) (given : ℕ → ℕ) → Assigns given (L .target) → SourceTrue L I
+      → TargetTrue L (assignment L I given) × ImagesAgree L I (assignment L I given)
+  forward-along = passed-forward L slice (passed L ws0 ws1 cls ent accepts)
+
+  -- 2. Backward, along a given interpretation for what the lowering leaves free: the interpretation that belongs to an assignment
+  pub backward-along : (A : ℕ → ℕ) (J : Interpretation) → OfKind J (L .source) → TargetTrue L A
+      → SourceTrue L (interpretation L A J) × ImagesAgree L (interpretation L A J) A
+  backward-along = passed-backward L slice (passed L ws0 ws1 cls ent accepts)
+
+  -- Each interpretation of the source that makes its roots true has an assignment of the target that makes its roots true, and each mapped row has
+  -- its image's value and width
+  pub forward : (I : Interpretation) → SourceTrue L I → (A : ℕ → ℕ) × TargetTrue L A × ImagesAgree L I A
+  forward I s = let (t, a) = forward-along I zeros (zeros-fit L) s in (assignment L I zeros, t, a)
+
+  -- and the other way round
+  pub backward : (A : ℕ → ℕ) → TargetTrue L A → (I : Interpretation) × SourceTrue L I × ImagesAgree L I A
+  backward A t = let (s, a) = backward-along A zero-interpretation (zero-fits L) t in (interpretation L A zero-interpretation, s, a)
+
+  -- so the source with its roots is satisfiable exactly when the target with its roots is
+  pub equisatisfiable : SourceIsSatisfiable L ↔ TargetIsSatisfiable L
+  equisatisfiable =
+      (λ (I, k, r). let (A, (f, t), _) = forward I (k, r) in (A, f, t), λ (A, f, t). let (I, (k, r), _) = backward A (f, t) in (I, k, r))
+
+  -- demand 3
+  pub sound : Sound L
+  sound = record { forward = forward; backward = backward; equisatisfiable = equisatisfiable }

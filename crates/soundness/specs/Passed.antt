@@ -1,0 +1,31 @@
+-- What an accepted Check has passed, test by test: all that demand 3 rests on. Assumes nothing.
+use Prim.Native.Nat.{ℕ, _+_, _<_, _≤_}
+use mathlib.Core.Path.{_≡_}
+use mathlib.Core.Bool.{true, false}
+use lib.ListN.{length, getD}
+use Rattle.answers.specs.Answer.{isAccepted}
+use Rattle.rows.specs.declared.Graph.the-variants.{Source, Target}
+use Rattle.rows.specs.Tags.{either}
+use Rattle.rows.specs.Encoding.{badRow, badBit}
+use Rattle.lowering.specs.Tables.{readCount, callCount, readGood, callGood, readClasses, callClasses}
+use Rattle.lowering.specs.Roots.{pair, leads, rootAt, readRoot, callRoot}
+use Rattle.lowering.specs.Check.{Lowering, sourceRows, targetRows, sourceIll, targetIll, targetWidths, noClasses, classesOfReads, classes, answerOf, pairsOfReads, pairsOfCalls, callRoots, rootsEnd}
+
+pub record Passed (L : Lowering) : Type 0 where
+  pub source-rows : sourceRows L ≤ badRow Source (L .source)
+  pub target-rows : targetRows L ≤ badRow Target (L .target)
+  pub source-bits : length (L .ebits) ≤ badBit (L .ebits)
+  pub target-bits : length (L .tbits) ≤ badBit (L .tbits)
+  pub source-formed : sourceRows L ≤ sourceIll L
+  pub target-formed : targetRows L ≤ targetIll L
+  pub map-length : length (L .map) ≡ sourceRows L
+  pub reads : (k : ℕ) → k < readCount (L .reads) → readGood (L .reads) (L .target) (targetWidths L) (readClasses (L .reads) (noClasses L) k) k ≡ true
+  pub calls : (k : ℕ) → k < callCount (L .calls) → callGood (L .calls) (L .cargs) (L .target) (callClasses (L .calls) (classesOfReads L) k) k ≡ true
+  pub rows : (i : ℕ) → i < sourceRows L → isAccepted (answerOf L i) ≡ true
+  pub live : (r : ℕ) → r < targetRows L → either (getD (classes L (sourceRows L)) r 0) 2 3 ≡ false
+  pub leading : (k : ℕ) → k < length (L .eroots) → leads (L .map) (L .eroots) (L .troots) k ≡ true
+  pub read-roots : (q : ℕ) → q < length (pairsOfReads L)
+      → rootAt (L .troots) (readRoot (L .reads) (L .target)) (length (L .eroots) + q) (getD (pairsOfReads L) q (pair 0 0)) ≡ true
+  pub call-roots : (q : ℕ) → q < length (pairsOfCalls L)
+      → rootAt (L .troots) (callRoot (L .calls) (L .cargs) (L .target)) (callRoots L + q) (getD (pairsOfCalls L) q (pair 0 0)) ≡ true
+  pub roots-end : length (L .troots) ≡ rootsEnd L

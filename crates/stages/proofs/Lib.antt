@@ -1,0 +1,4 @@
+pub mod Counts
+pub mod Form
+pub mod RootLaws
+pub mod TableLaws
