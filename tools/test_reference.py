@@ -118,6 +118,15 @@ class Answers(unittest.TestCase):
                          [(capitals(name), number) for number, name
                           in sorted(defined_answers().items())])
 
+    def test_names_in_the_reference(self):
+        names = set(defined_answers().values())
+        found = [(int(number), name) for number, name
+                 in re.findall(r"\b(\d+) ([A-Z]\w+)", content("docs", "REFERENCE.md"))
+                 if name in names]
+        self.assertEqual({name for _, name in found}, names - {"Accepted"})
+        for number, name in found:
+            self.assertEqual(defined_answers()[number], name)
+
     def test_tools(self):
         for number, (name, _, _) in ANSWERS.items():
             self.assertEqual(name, defined_answers()[number])
