@@ -43,6 +43,8 @@ def read_bytes(path):
 
 def read_text(path):
     data = read_bytes(path)
+    if b"\0" in data:
+        raise Failure(f"{path}: this looks like a book, not a listing; `show` makes one of it")
     try:
         return data.decode("utf-8-sig")
     except UnicodeDecodeError as error:

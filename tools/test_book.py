@@ -349,6 +349,8 @@ class CommandLine(unittest.TestCase):
         self.assertIn("bad.txt:2: no tag", self.run_book("make", bad, status=2)[1])
         latin = self.file("latin.txt", b"source\n Var 8 # \xe9\n")
         self.assertIn("latin.txt:2: not UTF-8", self.run_book("make", latin, status=2)[1])
+        book = os.path.join(TOP, "samples", "case-1.book")
+        self.assertIn("this looks like a book", self.run_book("make", book, status=2)[1])
         self.assertIn("No such file", self.run_book("make", "/no/such", status=2)[1])
         self.assertIn("No such file", self.run_book("show", "/no/such", status=2)[1])
         self.assertIn("directory", self.run_book("show", self.folder, status=2)[1])
