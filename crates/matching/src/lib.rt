@@ -10,7 +10,7 @@ ghost use Rattle.images.specs.Bits.{BitsWithin, ConstsWithin};
 ghost use Rattle.lists.specs.Tests.{agree};
 ghost use Rattle.lowering.specs.declared.Walk.{Walk};
 ghost use Rattle.lowering.specs.Images.{mapAt, sameConst};
-ghost use Rattle.lowering.specs.Matching.{walk, endGood, endClasses, callMatches, varMatches, nodeMatches, matched, nodeAnswer, nodeClasses, rowAnswer, rowClasses, classesTo, refusedRow, rowsAnswer, deadEntry};
+ghost use Rattle.lowering.specs.Matching.{walk, endGood, endClasses, callMatches, varMatches, nodeMatches, matched, nodeAnswer, nodeClasses, rowAnswer, rowClasses, classesTo, refusedRow, allRowsAnswer, deadEntry};
 ghost use Rattle.rows.specs.declared.Graph.{Graph};
 ghost use Rattle.rows.specs.Row.{rowCount, rowAt};
 ghost use Rattle.rows.specs.Tags.{either};
@@ -499,7 +499,7 @@ pub fn ext_rows(
 ) -> Answer
     requires { ⌜ Formed (now source) (now ebits) (now eside) (now target) (now tbits) ⌝ }
     requires { ⌜ (length (now ent) ≡ rowCount Graph.Target (now target)) × (length (now cls) ≡ rowCount Graph.Target (now target)) ⌝ }
-    ensures answer { λ a. ⌜ a ≡ rowsAnswer (now (source .entry)) (now (ebits .entry)) (now (eside .entry)) (now (map .entry)) (now (reads .entry)) (now (calls .entry)) (now (cargs .entry)) (now (target .entry)) (now (tbits .entry)) (now (ent .entry)) (now (cls .entry)) ⌝ }
+    ensures answer { λ a. ⌜ a ≡ allRowsAnswer (now (source .entry)) (now (ebits .entry)) (now (eside .entry)) (now (map .entry)) (now (reads .entry)) (now (calls .entry)) (now (cargs .entry)) (now (target .entry)) (now (tbits .entry)) (now (ent .entry)) (now (cls .entry)) ⌝ }
     ensures list { λ a. ⌜ now (cls .exit) ≡ classesTo (now (source .entry)) (now (ebits .entry)) (now (eside .entry)) (now (map .entry)) (now (target .entry)) (now (cls .entry)) (refusedRow (now (source .entry)) (now (ebits .entry)) (now (eside .entry)) (now (map .entry)) (now (reads .entry)) (now (calls .entry)) (now (cargs .entry)) (now (target .entry)) (now (tbits .entry)) (now (ent .entry)) (now (cls .entry))) ⌝ }
 {
     let n = rows::row_count(Graph::Source, source);
