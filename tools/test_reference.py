@@ -7,6 +7,7 @@ import os
 import re
 import unittest
 
+import believe
 from explain import ANSWERS
 from graph import CORE_TAGS, SOURCE_WORDS, TAGS, TARGET_WORDS, Graph
 from listing import BITS, CALL, CONTENTS, READ, SECTIONS
@@ -43,10 +44,13 @@ def capitals(name):
 
 
 def defined_answers():
-    """Names by number, as crates/answers defines them."""
+    """Names by number, as crates/answers defines them, of the answers that some code gives."""
     found = re.findall(r"(?m)^wordsOf \(?(\w+).*= words (\d+) ", content(
         "crates", "answers", "specs", "Answer.antt"))
-    return {int(number): name for name, number in found}
+    code = "".join(content(path) for path in glob.glob(os.path.join(TOP, "crates", "*", "src", "*.rt"))
+                   if os.sep + "answers" + os.sep not in path)
+    given = set(re.findall(r"Answer::(\w+)", code))
+    return {int(number): name for name, number in found if name in given}
 
 
 class Tags(unittest.TestCase):
@@ -174,6 +178,13 @@ class Pages(unittest.TestCase):
         for row in table("REFERENCE.md", "case"):
             line = content("samples", row[1] + ".line").strip()
             self.assertEqual(row[3], f"`{line}`")
+
+    def test_believe(self):
+        """The page of what must be believed has the definitions and the lines that there are."""
+        rows = [[f"`{path}`", ", ".join(f"`{name}`" for name in names), str(count)]
+                for path, names, count in believe.table()]
+        self.assertEqual(table("BELIEVE.md", "file"), rows)
+        self.assertIn(f"{sum(int(row[2]) for row in rows)} lines of them", content("docs", "BELIEVE.md"))
 
     def test_files_are_there(self):
         """Files that a page names; what a build makes is left out."""

@@ -19,7 +19,7 @@ use Rattle.lowering.specs.Images.{MAX, mapAt, sameConst}
 use Rattle.lowering.specs.Tables.{readCount, callCount, badRead, badCall}
 use Rattle.lowering.specs.Roots.{Pair, badLead, badCong, readPairs, callPairs, readRoot, callRoot}
 use Rattle.lowering.specs.Matching.{walk, endGood, callMatches, varMatches, nodeMatches, matched, nodeAnswer, rowAnswer}
-use Rattle.lowering.specs.Check.{Lowering, sourceRows, targetRows, targetWidths, noClasses, classesOfReads, deadVariable, answerOf, mismatch, offsets, classes, refuse, firstRefusal, countAnswers, graphAnswers, rootAnswers, matchAnswers}
+use Rattle.lowering.specs.Check.{Lowering, sourceRows, targetRows, widthsOfTarget, noClasses, classesOfReads, deadVariable, answerOf, mismatch, offsets, classes, refuse, firstRefusal, countAnswers, graphAnswers, rootAnswers, matchAnswers}
 
 -- a test's refusal, where it is none of the two
 keeps-refuse : (b : Bool) (a : Answer) → keeps a ≡ false → keeps (refuse b a) ≡ false
@@ -111,7 +111,7 @@ keeps-row L i = go (eqb (mapAt (L .map) i) MAX) (ltb (mapAt (L .map) i) (rowCoun
 
 module _ (L : Lowering) where
   abbrev r : ℕ
-  r = badRead (L .reads) (L .target) (targetWidths L) (noClasses L)
+  r = badRead (L .reads) (L .target) (widthsOfTarget L) (noClasses L)
 
   abbrev c : ℕ
   c = badCall (L .calls) (L .cargs) (L .target) (classesOfReads L)

@@ -17,7 +17,7 @@ use Rattle.rows.specs.Row.{rowCount}
 use Rattle.wf.specs.Widths.{rowWidth, widths}
 use Rattle.wf.proofs.Promise.{well-formed}
 use Rattle.lowering.specs.Tables.{readCount, readVar, callCount, callVar, readOffsets}
-use Rattle.lowering.specs.Check.{Lowering, sourceRows, targetRows, sourceWidths, targetWidths, sourceIll, targetIll, noClasses, classesOfReads, classes, offsets, refuse, firstRefusal, countAnswers, graphAnswers, graphsAnswer, matchAnswers, checkAnswer, Outcome, outcome, check}
+use Rattle.lowering.specs.Check.{Lowering, sourceRows, targetRows, widthsOfSource, widthsOfTarget, sourceIll, targetIll, noClasses, classesOfReads, classes, offsets, refuse, firstRefusal, countAnswers, graphAnswers, graphsAnswer, matchAnswers, checkAnswer, Outcome, outcome, check}
 use Rattle.lowering.proofs.Classes.{classes-keep-length}
 use Rattle.lowering.proofs.Inversion.{each-accepted, not-refused}
 use Rattle.lowering.proofs.Marks.{marks-length}
@@ -67,7 +67,7 @@ module _ (L : Lowering) (ws0 ws1 cls ent : List ℕ) where
       whole-keeps true e = rw (whole-is, c, e) (keeps-match L)
       whole-keeps false e = rw (whole-is, c, e) (keeps-graphs (L .source) (L .ebits) (L .target) (L .tbits) (sourceIll L) (targetIll L))
 
-  settle : (a : Answer) (x0 x1 x2 x3 : List ℕ) → whole ≡ a → lent a ws0 (sourceWidths L) ≡ x0 → lent a ws1 (targetWidths L) ≡ x1
+  settle : (a : Answer) (x0 x1 x2 x3 : List ℕ) → whole ≡ a → lent a ws0 (widthsOfSource L) ≡ x0 → lent a ws1 (widthsOfTarget L) ≡ x1
       → lent a cls (classes L (sourceRows L)) ≡ x2 → lent a ent (offsets L) ≡ x3 → outcome a x0 x1 x2 x3 ≡ check L ws0 ws1 cls ent
   settle a x0 x1 x2 x3 e f g h k = sym (rw (e, f, g, h, k))
 
@@ -95,7 +95,7 @@ module _ (L : Lowering) (ws0 ws1 cls ent : List ℕ) where
         match-done e n = zeroed (whole-is ∙ rw (c, g) (sym e)) n (rw e (keeps-match L))
 
         pub accept-done : a ≡ matching → isAccepted a ≡ true
-            → outcome a (sourceWidths L ++ replicate (length ws0 - sourceRows L) 0) (targetWidths L ++ replicate (length ws1 - targetRows L) 0)
+            → outcome a (widthsOfSource L ++ replicate (length ws0 - sourceRows L) 0) (widthsOfTarget L ++ replicate (length ws1 - targetRows L) 0)
             (classes L (sourceRows L) ++ replicate (length cls - targetRows L) 0) (offsets L ++ replicate (length ent - targetRows L) 0)
             ≡ check L ws0 ws1 cls ent
         accept-done e n =

@@ -11,7 +11,7 @@ use Rattle.answers.specs.declared.Answer.{Answer}
 use Rattle.answers.specs.declared.Answer.the-variants.{Accepted, WorkShort, BookShape}
 use Rattle.answers.specs.Answer.{isAccepted, keeps, lent, andThen}
 use Rattle.lists.proofs.Choice.{no-way}
-use Rattle.lowering.specs.Check.{Lowering, lowering, sourceRows, sourceWidths, targetWidths, classes, offsets, refuse, firstRefusal, countAnswers, checkAnswer, Outcome, outcome, check}
+use Rattle.lowering.specs.Check.{Lowering, lowering, sourceRows, widthsOfSource, widthsOfTarget, classes, offsets, refuse, firstRefusal, countAnswers, checkAnswer, Outcome, outcome, check}
 use Rattle.checker.proofs.Keeps.{keeps-count}
 use Rattle.checker.proofs.Outcome.{keeps-rest}
 use Rattle.book.specs.Book.{sections, contents, dueAt, firstBad, body, bookAnswer}
@@ -59,7 +59,7 @@ module _ (b ws0 ws1 cls ent words : List ℕ) where
   abbrev whole : Answer
   whole = judgeAnswer b (length ws0) (length ws1) (length cls) (length ent) (length words)
 
-  settle : (a : Answer) (x0 x1 x2 x3 x4 : List ℕ) → whole ≡ a → lent a ws0 (sourceWidths (held b)) ≡ x0 → lent a ws1 (targetWidths (held b)) ≡ x1
+  settle : (a : Answer) (x0 x1 x2 x3 x4 : List ℕ) → whole ≡ a → lent a ws0 (widthsOfSource (held b)) ≡ x0 → lent a ws1 (widthsOfTarget (held b)) ≡ x1
       → lent a cls (classes (held b) (sourceRows (held b))) ≡ x2 → lent a ent (offsets (held b)) ≡ x3 → lent a words (bookWords b) ≡ x4
       → judged a x0 x1 x2 x3 x4 ≡ judge b ws0 ws1 cls ent words
   settle a x0 x1 x2 x3 x4 e f g h k l = sym (rw (e, f, g, h, k, l))
@@ -101,8 +101,8 @@ module _ (b ws0 ws1 cls ent words : List ℕ) where
         pub words-done : (x4 : List ℕ) → lent a words (bookWords b) ≡ x4 → judged a y0 y1 y2 y3 x4 ≡ judge b ws0 ws1 cls ent words
         words-done x4 l =
             settle a y0 y1 y2 y3 x4 whole-checked
-            (ap (λ (z : Answer). lent z ws0 (sourceWidths (held b))) is-checked ∙ sym (ap (λ (z : Outcome). z .source-widths) o))
-            (ap (λ (z : Answer). lent z ws1 (targetWidths (held b))) is-checked ∙ sym (ap (λ (z : Outcome). z .target-widths) o))
+            (ap (λ (z : Answer). lent z ws0 (widthsOfSource (held b))) is-checked ∙ sym (ap (λ (z : Outcome). z .source-widths) o))
+            (ap (λ (z : Answer). lent z ws1 (widthsOfTarget (held b))) is-checked ∙ sym (ap (λ (z : Outcome). z .target-widths) o))
             (ap (λ (z : Answer). lent z cls (classes (held b) (sourceRows (held b)))) is-checked ∙ sym (ap (λ (z : Outcome). z .class-list) o))
             (ap (λ (z : Answer). lent z ent (offsets (held b))) is-checked ∙ sym (ap (λ (z : Outcome). z .entry-list) o)) l
 

@@ -9,7 +9,7 @@ use Rattle.answers.specs.declared.Answer.the-variants.{WorkShort, BookShape}
 use Rattle.answers.specs.Answer.{andThen, lent}
 use Rattle.book.specs.Book.{sections, body, bookAnswer}
 use Rattle.book.specs.Words.{listOf, loaded}
-use Rattle.lowering.specs.Check.{Lowering, lowering, sourceRows, targetRows, sourceWidths, targetWidths, classes, offsets, refuse, firstRefusal, countAnswers, checkAnswer}
+use Rattle.lowering.specs.Check.{Lowering, lowering, sourceRows, targetRows, widthsOfSource, widthsOfTarget, classes, offsets, refuse, firstRefusal, countAnswers, checkAnswer}
 
 -- "the bodies in the order of `check_sliver_lowering`'s arguments"
 abbrev pub held : List ℕ → Lowering
@@ -47,7 +47,7 @@ abbrev pub judge : List ℕ → List ℕ → List ℕ → List ℕ → List ℕ 
 judge b ws0 ws1 cls ent words =
     let a = judgeAnswer b (length ws0) (length ws1) (length cls) (length ent) (length words) in
     let L = held b in
-    judged a (lent a ws0 (sourceWidths L)) (lent a ws1 (targetWidths L)) (lent a cls (classes L (sourceRows L))) (lent a ent (offsets L))
+    judged a (lent a ws0 (widthsOfSource L)) (lent a ws1 (widthsOfTarget L)) (lent a cls (classes L (sourceRows L))) (lent a ent (offsets L))
     (lent a words (bookWords b))
 
 -- "reads a book of at most 65,536 bytes from standard input (longer: 20, place 13)"

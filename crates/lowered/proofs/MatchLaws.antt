@@ -16,8 +16,8 @@ use Rattle.lists.proofs.First.{first-all}
 use Rattle.rows.specs.declared.Graph.the-variants.{Target}
 use Rattle.wf.specs.Widths.{rowWidth}
 use Rattle.lowering.specs.Tables.{readCount, callCount, readClasses, callClasses, readOffsets, callOffsets}
-use Rattle.lowering.specs.Matching.{classesTo, refusedRow, rowsAnswer, deadEntry}
-use Rattle.lowering.specs.Check.{Lowering, sourceRows, targetRows, targetWidths, noClasses, classesOfReads, classesOfTables, classes, offsets, answerOf, mismatch, rowsRefusal, deadVariable, refuse, firstRefusal, tableAnswers, rootAnswers, matchAnswers}
+use Rattle.lowering.specs.Matching.{classesTo, refusedRow, allRowsAnswer, deadEntry}
+use Rattle.lowering.specs.Check.{Lowering, sourceRows, targetRows, widthsOfTarget, noClasses, classesOfReads, classesOfTables, classes, offsets, answerOf, mismatch, rowsRefusal, deadVariable, refuse, firstRefusal, tableAnswers, rootAnswers, matchAnswers}
 use Rattle.lowering.proofs.Inversion.{each-accepted, not-refused, all-pass, first-refused}
 use Rattle.lowering.proofs.Refusals.{refusal-append}
 use Rattle.pairs.specs.Walk.{ReadsIn}
@@ -30,7 +30,7 @@ module _ (L : Lowering) where
   answer = firstRefusal (matchAnswers L)
 
   abbrev pub tablesAnswer : Answer
-  tablesAnswer = firstRefusal (tableAnswers (L .reads) (L .calls) (L .cargs) (L .target) (targetWidths L) (noClasses L))
+  tablesAnswer = firstRefusal (tableAnswers (L .reads) (L .calls) (L .cargs) (L .target) (widthsOfTarget L) (noClasses L))
 
   abbrev pub rootsAnswer : Answer
   rootsAnswer = firstRefusal (rootAnswers (L .eroots) (L .map) (L .reads) (L .calls) (L .cargs) (L .target) (L .tbits) (L .troots))
@@ -46,16 +46,16 @@ module _ (L : Lowering) where
   map-3 n = rw (ne-eqb _ _ n)
 
   module _ (a : length (L .map) ≡ sourceRows L) where
-    after-map : answer ≡ firstRefusal (tableAnswers (L .reads) (L .calls) (L .cargs) (L .target) (targetWidths L) (noClasses L) ++ rest)
+    after-map : answer ≡ firstRefusal (tableAnswers (L .reads) (L .calls) (L .cargs) (L .target) (widthsOfTarget L) (noClasses L) ++ rest)
     unfolding firstRefusal
     after-map = rw (eq-eqb _ _ a)
 
     pub tables-refuse : isAccepted tablesAnswer ≡ false → answer ≡ tablesAnswer
-    tables-refuse e = after-map ∙ refusal-append (tableAnswers (L .reads) (L .calls) (L .cargs) (L .target) (targetWidths L) (noClasses L)) rest ∙ rw e
+    tables-refuse e = after-map ∙ refusal-append (tableAnswers (L .reads) (L .calls) (L .cargs) (L .target) (widthsOfTarget L) (noClasses L)) rest ∙ rw e
 
     module _ (b : isAccepted tablesAnswer ≡ true) where
       after-tables : answer ≡ firstRefusal rest
-      after-tables = after-map ∙ refusal-append (tableAnswers (L .reads) (L .calls) (L .cargs) (L .target) (targetWidths L) (noClasses L)) rest ∙ rw b
+      after-tables = after-map ∙ refusal-append (tableAnswers (L .reads) (L .calls) (L .cargs) (L .target) (widthsOfTarget L) (noClasses L)) rest ∙ rw b
 
       pub rows-refuse : isAccepted (rowsRefusal L) ≡ false → answer ≡ rowsRefusal L
       unfolding firstRefusal
@@ -79,19 +79,19 @@ module _ (L : Lowering) where
   module _ (b : isAccepted tablesAnswer ≡ true) where
     pub reads-inside : ReadsIn (L .reads) (L .target)
     reads-inside =
-        reads-in (L .reads) (L .target) (targetWidths L) (readClasses (L .reads) (noClasses L)) width-count
-        (all-pass _ (readCount (L .reads)) (not-refused _ (ReadTable _) refl (each-accepted (tableAnswers (L .reads) (L .calls) (L .cargs) (L .target) (targetWidths L) (noClasses L)) b 0)))
+        reads-in (L .reads) (L .target) (widthsOfTarget L) (readClasses (L .reads) (noClasses L)) width-count
+        (all-pass _ (readCount (L .reads)) (not-refused _ (ReadTable _) refl (each-accepted (tableAnswers (L .reads) (L .calls) (L .cargs) (L .target) (widthsOfTarget L) (noClasses L)) b 0)))
       where
-        width-count : length (targetWidths L) ≤ targetRows L
+        width-count : length (widthsOfTarget L) ≤ targetRows L
         width-count = let e = build-length (rowWidth Target (length (L .tbits)) [] (L .target)) (targetRows L) in omega arith
 
     pub calls-inside : CallsIn (L .calls) (L .cargs)
     calls-inside =
         calls-in (L .calls) (L .cargs) (L .target) (callClasses (L .calls) (classesOfReads L))
-        (all-pass _ (callCount (L .calls)) (not-refused _ (CallTable _) refl (each-accepted (tableAnswers (L .reads) (L .calls) (L .cargs) (L .target) (targetWidths L) (noClasses L)) b 1)))
+        (all-pass _ (callCount (L .calls)) (not-refused _ (CallTable _) refl (each-accepted (tableAnswers (L .reads) (L .calls) (L .cargs) (L .target) (widthsOfTarget L) (noClasses L)) b 1)))
 
 -- the steps of the code on plain lists: what each call has answered and left
-module _ (L : Lowering) (ws cls0 ent0 : List ℕ) (wide : ws ≡ targetWidths L) (clear : cls0 ≡ noClasses L) (clear-too : ent0 ≡ noClasses L)
+module _ (L : Lowering) (ws cls0 ent0 : List ℕ) (wide : ws ≡ widthsOfTarget L) (clear : cls0 ≡ noClasses L) (clear-too : ent0 ≡ noClasses L)
     (t : Answer) (cls1 ent1 : List ℕ) (tables : t ≡ firstRefusal (tableAnswers (L .reads) (L .calls) (L .cargs) (L .target) ws cls0))
     (marked : isAccepted t ≡ true → cls1 ≡ callClasses (L .calls) (readClasses (L .reads) cls0 (readCount (L .reads))) (callCount (L .calls)))
     (placed : isAccepted t ≡ true → ent1 ≡ callOffsets (L .calls) (readOffsets (L .reads) ent0 (readCount (L .reads))) (callCount (L .calls)))
@@ -121,7 +121,7 @@ module _ (L : Lowering) (ws cls0 ent0 : List ℕ) (wide : ws ≡ targetWidths L)
     ent-is : ent1 ≡ offsets L
     ent-is = rw clear-too at (placed ok)
 
-    module _ (r : Answer) (cls2 : List ℕ) (rows : r ≡ rowsAnswer (L .source) (L .ebits) (L .eside) (L .map) (L .reads) (L .calls) (L .cargs) (L .target) (L .tbits) ent1 cls1)
+    module _ (r : Answer) (cls2 : List ℕ) (rows : r ≡ allRowsAnswer (L .source) (L .ebits) (L .eside) (L .map) (L .reads) (L .calls) (L .cargs) (L .target) (L .tbits) ent1 cls1)
         (after : cls2 ≡ classesTo (L .source) (L .ebits) (L .eside) (L .map) (L .target) cls1 (refusedRow (L .source) (L .ebits) (L .eside) (L .map) (L .reads) (L .calls) (L .cargs) (L .target) (L .tbits) ent1 cls1)) where
       rows-are : r ≡ rowsRefusal L
       rows-are = rows ∙ rw (cls-is, ent-is)

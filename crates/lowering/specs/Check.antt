@@ -12,7 +12,7 @@ use Rattle.rows.specs.Row.{rowCount, ragged}
 use Rattle.rows.specs.Encoding.{badRow, badBit}
 use Rattle.wf.specs.Widths.{illRow, widths}
 use Rattle.lowering.specs.Tables.{readCount, callCount, badRead, badCall, readClasses, callClasses, readOffsets, callOffsets}
-use Rattle.lowering.specs.Matching.{rowAnswer, classesTo, refusedRow, rowsAnswer, deadEntry}
+use Rattle.lowering.specs.Matching.{rowAnswer, classesTo, refusedRow, allRowsAnswer, deadEntry}
 use Rattle.lowering.specs.Roots.{Pair, badLead, readPairs, callPairs, readRoot, callRoot, badCong}
 
 -- what Check is asked: the eleven lists of `check_sliver_lowering`, in its order (its `e` and `t` are the source and the target)
@@ -46,11 +46,11 @@ module _ (L : Lowering) where
   abbrev pub targetIll : ℕ
   targetIll = illRow Target (length (L .tbits)) [] (L .target)
 
-  abbrev pub sourceWidths : List ℕ
-  sourceWidths = widths Source (length (L .ebits)) (L .eside) (L .source)
+  abbrev pub widthsOfSource : List ℕ
+  widthsOfSource = widths Source (length (L .ebits)) (L .eside) (L .source)
 
-  abbrev pub targetWidths : List ℕ
-  targetWidths = widths Target (length (L .tbits)) [] (L .target)
+  abbrev pub widthsOfTarget : List ℕ
+  widthsOfTarget = widths Target (length (L .tbits)) [] (L .target)
 
   -- "Each target row has a class, first 0": classes before the calls, before the rows, before row n
   abbrev pub noClasses : List ℕ
@@ -77,7 +77,7 @@ module _ (L : Lowering) where
   mismatch = refusedRow (L .source) (L .ebits) (L .eside) (L .map) (L .reads) (L .calls) (L .cargs) (L .target) (L .tbits) offsets classesOfTables
 
   abbrev pub rowsRefusal : Answer
-  rowsRefusal = rowsAnswer (L .source) (L .ebits) (L .eside) (L .map) (L .reads) (L .calls) (L .cargs) (L .target) (L .tbits) offsets classesOfTables
+  rowsRefusal = allRowsAnswer (L .source) (L .ebits) (L .eside) (L .map) (L .reads) (L .calls) (L .cargs) (L .target) (L .tbits) offsets classesOfTables
 
   abbrev pub deadVariable : ℕ
   deadVariable = deadEntry (classes sourceRows) targetRows
@@ -159,7 +159,7 @@ tableAnswers reads calls cargs target ws cls =
 abbrev pub matchAnswers : Lowering → List Answer
 matchAnswers L =
     refuse (not (eqb (length (L .map)) (sourceRows L))) (MapLength (sourceRows L) (length (L .map)))
-    ∷ tableAnswers (L .reads) (L .calls) (L .cargs) (L .target) (targetWidths L) (noClasses L)
+    ∷ tableAnswers (L .reads) (L .calls) (L .cargs) (L .target) (widthsOfTarget L) (noClasses L)
     ++ (rowsRefusal L
     ∷ refuse (ltb (deadVariable L) (targetRows L)) (DeadEntry (deadVariable L))
     ∷ rootAnswers (L .eroots) (L .map) (L .reads) (L .calls) (L .cargs) (L .target) (L .tbits) (L .troots))
@@ -186,4 +186,4 @@ outcome a ws0 ws1 cls ent = record { answer = a; source-widths = ws0; target-wid
 abbrev pub check : Lowering → List ℕ → List ℕ → List ℕ → List ℕ → Outcome
 check L ws0 ws1 cls ent =
     let a = checkAnswer L (length ws0) (length ws1) (length cls) (length ent) in
-    outcome a (lent a ws0 (sourceWidths L)) (lent a ws1 (targetWidths L)) (lent a cls (classes L (sourceRows L))) (lent a ent (offsets L))
+    outcome a (lent a ws0 (widthsOfSource L)) (lent a ws1 (widthsOfTarget L)) (lent a cls (classes L (sourceRows L))) (lent a ent (offsets L))

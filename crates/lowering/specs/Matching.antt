@@ -146,8 +146,8 @@ refusedRow source ebits eside map reads calls cargs target tbits ent cls =
     (rowCount Source source)
 
 -- the answer of all rows: the first refusal
-abbrev pub rowsAnswer : List ℕ → List ℕ → List ℕ → List ℕ → List ℕ → List ℕ → List ℕ → List ℕ → List ℕ → List ℕ → List ℕ → Answer
-rowsAnswer source ebits eside map reads calls cargs target tbits ent cls =
+abbrev pub allRowsAnswer : List ℕ → List ℕ → List ℕ → List ℕ → List ℕ → List ℕ → List ℕ → List ℕ → List ℕ → List ℕ → List ℕ → Answer
+allRowsAnswer source ebits eside map reads calls cargs target tbits ent cls =
     let i = refusedRow source ebits eside map reads calls cargs target tbits ent cls in
     cond (ltb i (rowCount Source source))
     (rowAnswer source ebits eside map reads calls cargs target tbits ent (classesTo source ebits eside map target cls i) i)

@@ -13,7 +13,7 @@ use Rattle.lists.specs.Trace.{trace}
 use Rattle.lists.proofs.First.{first-at, first-past}
 use Rattle.rows.specs.declared.Graph.the-variants.{Source}
 use Rattle.rows.specs.Row.{rowCount}
-use Rattle.lowering.specs.Matching.{rowAnswer, rowClasses, classesTo, refusedRow, rowsAnswer}
+use Rattle.lowering.specs.Matching.{rowAnswer, rowClasses, classesTo, refusedRow, allRowsAnswer}
 
 module _ (source ebits eside map reads calls cargs target tbits ent cls : List ℕ) where
   -- the classes before row i, its answer, and whether it is refused
@@ -33,7 +33,7 @@ module _ (source ebits eside map reads calls cargs target tbits ent cls : List �
   stop = refusedRow source ebits eside map reads calls cargs target tbits ent cls
 
   abbrev pub whole : Answer
-  whole = rowsAnswer source ebits eside map reads calls cargs target tbits ent cls
+  whole = allRowsAnswer source ebits eside map reads calls cargs target tbits ent cls
 
   pub rows-start : cls ≡ before 0
   unfolding trace

@@ -8,7 +8,7 @@ ghost use Rattle.answers.specs.Answer.{isAccepted};
 ghost use Rattle.images.specs.Bits.{BitsWithin, ConstsWithin};
 ghost use Rattle.lowering.specs.Images.{sameConst};
 ghost use Rattle.lowering.specs.Matching.{varMatches, nodeMatches, matched, nodeAnswer, nodeClasses, rowAnswer, rowClasses};
-ghost use Rattle.lowering.specs.Matching.{classesTo, refusedRow, rowsAnswer, deadEntry};
+ghost use Rattle.lowering.specs.Matching.{classesTo, refusedRow, allRowsAnswer, deadEntry};
 ghost use Rattle.rows.specs.declared.Graph.{Graph};
 ghost use Rattle.rows.specs.Row.{rowCount, rowAt};
 ghost use Rattle.rows.specs.Tags.{either};
@@ -197,7 +197,7 @@ pub fn ext_rows(
 ) -> Answer
     requires { ⌜ Formed (now source) (now ebits) (now eside) (now target) (now tbits) ⌝ }
     requires { ⌜ (length (now ent) ≡ rowCount Graph.Target (now target)) × (length (now cls) ≡ rowCount Graph.Target (now target)) ⌝ }
-    ensures answer { λ a. ⌜ a ≡ rowsAnswer (now (source .entry)) (now (ebits .entry)) (now (eside .entry)) (now (map .entry)) (now (reads .entry))
+    ensures answer { λ a. ⌜ a ≡ allRowsAnswer (now (source .entry)) (now (ebits .entry)) (now (eside .entry)) (now (map .entry)) (now (reads .entry))
         (now (calls .entry)) (now (cargs .entry)) (now (target .entry)) (now (tbits .entry)) (now (ent .entry)) (now (cls .entry)) ⌝ }
     ensures list { λ a. ⌜ now (cls .exit) ≡ classesTo (now (source .entry)) (now (ebits .entry)) (now (eside .entry)) (now (map .entry))
         (now (target .entry)) (now (cls .entry)) (refusedRow (now (source .entry)) (now (ebits .entry)) (now (eside .entry)) (now (map .entry))

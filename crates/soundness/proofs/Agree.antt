@@ -30,7 +30,7 @@ use Rattle.lowering.specs.declared.Walk.{Walk}
 use Rattle.lowering.specs.declared.Walk.the-variants.{Met, Lost}
 use Rattle.lowering.specs.Images.{fieldAt, bothConst, sameConst}
 use Rattle.lowering.specs.Matching.{isLevel, walk}
-use Rattle.lowering.specs.Check.{Lowering, sourceRows, targetRows, sourceWidths}
+use Rattle.lowering.specs.Check.{Lowering, sourceRows, targetRows, widthsOfSource}
 use Rattle.lowering.proofs.Images.{const-row, both-const}
 use Rattle.soundness.proofs.Facts.{S, T, m, Mapped, Formed, SameCore, ReadOf, CallOf, Ends, walkOf, Found, Matched}
 use Rattle.soundness.proofs.Images.{eq-row, ite-row, same-const}
@@ -60,7 +60,7 @@ module _ (L : Lowering) (F : Formed L) (M : Matched L) (I : Interpretation) (A :
   sv i = sourceValue (L .source) (L .ebits) (L .eside) I i
 
   abbrev pub sw : ℕ → ℕ
-  sw i = getD (sourceWidths L) i 0
+  sw i = getD (widthsOfSource L) i 0
 
   abbrev pub tv′ : ℕ → Val
   tv′ r = tv L F A assigns r
@@ -81,7 +81,7 @@ module _ (L : Lowering) (F : Formed L) (M : Matched L) (I : Interpretation) (A :
       → ((j : ℕ) → j < i → Agree j) → I .function f w (tabulate (λ l. sv (xs l)) k) ≡ A r
 
   node-value : (i : ℕ) (node : Node) → i < sourceRows L → S L i ≡ node → sv i ≡ sourceNode (L .ebits) (L .eside) I sv i node
-  node-value i node h e = source-value (L .ebits) (L .eside) (L .source) (sourceWidths L) I (F .source-formed) i h ∙ ap (sourceNode (L .ebits) (L .eside) I sv i) e
+  node-value i node h e = source-value (L .ebits) (L .eside) (L .source) (widthsOfSource L) I (F .source-formed) i h ∙ ap (sourceNode (L .ebits) (L .eside) I sv i) e
 
   node-formed : (i : ℕ) (node : Node) → i < sourceRows L → S L i ≡ node → RowFormed (length (L .ebits)) (L .eside) sw i node
   node-formed i node h e = rw e at (F .source-formed i h)
@@ -156,7 +156,7 @@ module _ (L : Lowering) (F : Formed L) (M : Matched L) (I : Interpretation) (A :
           let n = ap (λ (l : List ℕ). getD l 1 0) (rw (np, nj) at same) in
           let e : nat (sv p) ≡ x = ap nat (const-value p (omega arith) kp) ∙ n ∙ sym (ap nat (const-value j (omega arith) kj)) in
           let v′ : sv v ≡ tv′ r = ih v lv (omega arith, rw (← u) hr) ∙ ap tv′ (sym u) in
-          (rw (eq-eqb _ _ e, v′), ap wid (sym v′) ∙ source-width (L .ebits) (L .eside) (L .source) (sourceWidths L) I (F .source-formed) v (omega arith) ∙ wv)
+          (rw (eq-eqb _ _ e, v′), ap wid (sym v′) ∙ source-width (L .ebits) (L .eside) (L .source) (widthsOfSource L) I (F .source-formed) v (omega arith) ∙ wv)
       go rec true eb false ec d ed u =
           let (kp, kj) = both-const sp sj eb in
           let w : getD sp 2 0 ≡ getD sj 2 0 = sym (const-width p (omega arith) kp) ∙ wp ∙ sym wj ∙ const-width j (omega arith) kj in

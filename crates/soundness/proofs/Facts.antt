@@ -21,7 +21,7 @@ use Rattle.lowering.specs.Images.{mapAt, unequalConst}
 use Rattle.lowering.specs.Tables.{readCount, readVar, readArray, readIndex, callCount, callVar, callFunction, argCount, callArg, sameFunction}
 use Rattle.lowering.specs.Matching.{walk}
 use Rattle.lowering.specs.Roots.{congruent}
-use Rattle.lowering.specs.Check.{Lowering, sourceRows, targetRows, sourceWidths, targetWidths}
+use Rattle.lowering.specs.Check.{Lowering, sourceRows, targetRows, widthsOfSource, widthsOfTarget}
 
 -- whose a target variable is: a source variable's image, a read entry's, a call entry's
 pub data Owner : Type 0 where
@@ -49,8 +49,8 @@ module _ (L : Lowering) where
 
   -- the layer below: both graphs are well formed, the target holds core rows and bits
   pub record Formed : Type 0 where
-    pub source-formed : WellFormed Source (length (L .ebits)) (L .eside) (L .source) (sourceWidths L)
-    pub target-formed : WellFormed Target (length (L .tbits)) [] (L .target) (targetWidths L)
+    pub source-formed : WellFormed Source (length (L .ebits)) (L .eside) (L .source) (widthsOfSource L)
+    pub target-formed : WellFormed Target (length (L .tbits)) [] (L .target) (widthsOfTarget L)
     pub source-bits : (k : ℕ) → getD (L .ebits) k 0 < 2
     pub target-bits : (k : ℕ) → getD (L .tbits) k 0 < 2
     pub target-core : (r : ℕ) → r < targetRows L → tagOf (T r) < 37
@@ -103,7 +103,7 @@ module _ (L : Lowering) where
   pub record ReadEntry (q : ℕ) : Type 0 where
     pub inside : readVar (L .reads) q < targetRows L
     pub is-var : T (readVar (L .reads) q) ≡ Var (cellWidth (readArray (L .reads) q))
-    pub index-width : getD (targetWidths L) (readIndex (L .reads) q) 0 ≡ indexWidth (readArray (L .reads) q)
+    pub index-width : getD (widthsOfTarget L) (readIndex (L .reads) q) 0 ≡ indexWidth (readArray (L .reads) q)
     pub index-image : Image (readIndex (L .reads) q)
 
   -- a call entry: its variable is a Var row, its arguments are images

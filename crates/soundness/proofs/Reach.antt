@@ -28,7 +28,7 @@ use Rattle.lowering.specs.declared.Walk.the-variants.{Met, Lost}
 use Rattle.lowering.specs.Images.{MAX, fieldAt, bothConst, sameConst}
 use Rattle.lowering.specs.Tables.{readIndex, argCount, callArg}
 use Rattle.lowering.specs.Matching.{isLevel, walk}
-use Rattle.lowering.specs.Check.{Lowering, sourceRows, targetRows, sourceWidths}
+use Rattle.lowering.specs.Check.{Lowering, sourceRows, targetRows, widthsOfSource}
 use Rattle.soundness.proofs.Facts.{S, T, m, Mapped, Formed, SameCore, Ends, walkOf, Found, Owner, by-var, by-read, by-call, Owns, Matched}
 use Rattle.soundness.specs.Passed.{Passed}
 use Rattle.soundness.proofs.Images.{eq-row, ite-row}
@@ -129,7 +129,7 @@ module _ (L : Lowering) (F : Formed L) (M : Matched L) where
         covered-node L i r (Ite y (m L v) z) er refl (test, (earlier v lv (omega (arith, fr .1 .0)), (rest (omega (arith, fr .1 .1 .0)), tt)))
 
     -- the walk along a Select's pairs, from target row r on
-    walk-reached : (a j : ℕ) → j < i → (k s r : ℕ) → Pairs (indexWidth a) (cellWidth a) (λ x. getD (sourceWidths L) x 0) i (L .eside) k s
+    walk-reached : (a j : ℕ) → j < i → (k s r : ℕ) → Pairs (indexWidth a) (cellWidth a) (λ x. getD (widthsOfSource L) x 0) i (L .eside) k s
         → r < targetRows L → Ends L a j (walkOf L j k s r) → used L i ≡ usedEnd L (walkOf L j k s r) → Covered L i r
     unfolding walk
     walk-reached a j lj zero s r p h (q, z) e = covered-var L i r _ (rw (z .variable-is) at (M .of-read q (z .inside) .is-var)) (at-row, e)
@@ -157,7 +157,7 @@ module _ (L : Lowering) (F : Formed L) (M : Matched L) where
         go rec false c true ed u n = level-reached (getD (L .eside) s 0) j v r lp lj lv h ed (λ k. rec (fieldAt (L .target) r 3) k u n)
         go rec false c false ed u n = absurd u
 
-    node-reached : (node : Node) → S L i ≡ node → RowFormed (length (L .ebits)) (L .eside) (λ a. getD (sourceWidths L) a 0) i node → Found L i node
+    node-reached : (node : Node) → S L i ≡ node → RowFormed (length (L .ebits)) (L .eside) (λ a. getD (widthsOfSource L) a 0) i node → Found L i node
         → Covered L i (m L i)
     node-reached (Var w) e g f = covered-var L i (m L i) w f (at-row, ap (usedAt L (m L i)) e)
     node-reached (Const s w) e g f = core-reached (Const s w) (g .earlier) f
@@ -167,7 +167,7 @@ module _ (L : Lowering) (F : Formed L) (M : Matched L) where
     node-reached (Extend t a n) e g f = core-reached (Extend t a n) (g .earlier) f
     node-reached (Ite c t b) e g f = core-reached (Ite c t b) (g .earlier) f
     node-reached (Select a j s k) e g f =
-        let p = pairs-formed (indexWidth a) (cellWidth a) (λ x. getD (sourceWidths L) x 0) i (L .eside) k s (g .follows .2) in
+        let p = pairs-formed (indexWidth a) (cellWidth a) (λ x. getD (widthsOfSource L) x 0) i (L .eside) k s (g .follows .2) in
         walk-reached a j (g .earlier .0) k s (m L i) p (at-row .1) f (ap (usedAt L (m L i)) e)
     node-reached (Call f w s k) e g (t, c) = covered-var L i (m L i) w t (at-row, ap (usedAt L (m L i)) e)
     node-reached Unknown e g f = absurd f

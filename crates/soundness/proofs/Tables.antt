@@ -19,7 +19,7 @@ use Rattle.wf.specs.Rule.{indexWidth, cellWidth, hasWidth}
 use Rattle.wf.specs.Widths.{rowWidth}
 use Rattle.lowering.specs.Images.{fieldAt}
 use Rattle.lowering.specs.Tables.{readCount, readVar, readArray, readIndex, callCount, callVar, callStart, argCount, callArg, readGood, callGood, readClasses, callClasses, readOffsets}
-use Rattle.lowering.specs.Check.{Lowering, targetRows, targetWidths, noClasses, classesOfReads, classesOfTables, offsets}
+use Rattle.lowering.specs.Check.{Lowering, targetRows, widthsOfTarget, noClasses, classesOfReads, classesOfTables, offsets}
 use Rattle.lowering.proofs.Marks.{marks-length}
 use Rattle.soundness.proofs.Facts.{T}
 use Rattle.soundness.specs.Passed.{Reached}
@@ -39,7 +39,7 @@ module _ (L : Lowering) {N : ℕ} (E : Reached L N) where
   pub read-facts : (q : ℕ) → q < readCount (L .reads)
       → (readVar (L .reads) q < targetRows L) × (T L (readVar (L .reads) q) ≡ Var (cellWidth (readArray (L .reads) q)))
       × (getD (readClasses (L .reads) (noClasses L) q) (readVar (L .reads) q) 0 ≡ 0)
-      × (hasWidth (targetWidths L) (readIndex (L .reads) q) (indexWidth (readArray (L .reads) q)) ≡ true)
+      × (hasWidth (widthsOfTarget L) (readIndex (L .reads) q) (indexWidth (readArray (L .reads) q)) ≡ true)
   unfolding readGood
   read-facts q h =
       let (_, (a, (b, (c, (d, _))))) = all-true _ (E .reads q h) in
@@ -70,11 +70,11 @@ module _ (L : Lowering) {N : ℕ} (E : Reached L N) where
 
   -- the index of a read is a row of its width
   pub read-index : (q : ℕ) → q < readCount (L .reads)
-      → (readIndex (L .reads) q < targetRows L) × (getD (targetWidths L) (readIndex (L .reads) q) 0 ≡ indexWidth (readArray (L .reads) q))
+      → (readIndex (L .reads) q < targetRows L) × (getD (widthsOfTarget L) (readIndex (L .reads) q) 0 ≡ indexWidth (readArray (L .reads) q))
   read-index q h =
       let (a, b) = both _ _ (read-facts q h .3) in
-      let n : length (targetWidths L) ≡ targetRows L = build-length (rowWidth Target (length (L .tbits)) [] (L .target)) (targetRows L) in
-      (rw n at (ltb-true (readIndex (L .reads) q) (length (targetWidths L)) a), eqb-true _ _ b)
+      let n : length (widthsOfTarget L) ≡ targetRows L = build-length (rowWidth Target (length (L .tbits)) [] (L .target)) (targetRows L) in
+      (rw n at (ltb-true (readIndex (L .reads) q) (length (widthsOfTarget L)) a), eqb-true _ _ b)
 
   start-length : length (noClasses L) ≡ targetRows L
   start-length = length-replicate {A = ℕ} (targetRows L) 0

@@ -23,7 +23,7 @@ use Rattle.value.proofs.Formed.{value-formed}
 use Rattle.lowering.specs.Images.{fieldAt}
 use Rattle.lowering.specs.Matching.{isEq}
 use Rattle.lowering.specs.Roots.{allEqual, congruent}
-use Rattle.lowering.specs.Check.{Lowering, targetRows, targetWidths}
+use Rattle.lowering.specs.Check.{Lowering, targetRows, widthsOfTarget}
 use Rattle.soundness.proofs.Facts.{T, Formed}
 use Rattle.soundness.proofs.Images.{eq-row, and-row, or-row, not-row}
 use Rattle.meaning.proofs.Values.{target-value}
@@ -105,13 +105,13 @@ module _ (L : Lowering) (F : Formed L) (A : ℕ → ℕ) (assigns : Assigns A (L
   tv r = value (L .tbits) A (L .target) r
 
   abbrev pub tw : ℕ → ℕ
-  tw r = getD (targetWidths L) r 0
+  tw r = getD (widthsOfTarget L) r 0
 
   pub row-value : (r : ℕ) (node : Node) → r < targetRows L → T L r ≡ node → tv r ≡ nodeValue (L .tbits) A tv r node
-  row-value r node h e = target-value (L .tbits) [] (L .target) (targetWidths L) A (F .target-formed) r h ∙ ap (nodeValue (L .tbits) A tv r) e
+  row-value r node h e = target-value (L .tbits) [] (L .target) (widthsOfTarget L) A (F .target-formed) r h ∙ ap (nodeValue (L .tbits) A tv r) e
 
   pub row-width : (r : ℕ) → r < targetRows L → wid (tv r) ≡ tw r
-  row-width r h = value-formed (L .tbits) [] (L .target) (targetWidths L) A (F .target-formed) (F .target-bits) (F .target-core) assigns r h .0
+  row-width r h = value-formed (L .tbits) [] (L .target) (widthsOfTarget L) A (F .target-formed) (F .target-bits) (F .target-core) assigns r h .0
 
   pub row-formed : (r : ℕ) (node : Node) → r < targetRows L → T L r ≡ node → RowFormed (length (L .tbits)) [] tw r node
   row-formed r node h e = rw e at (F .target-formed r h)

@@ -1,4 +1,4 @@
--- What an accepted Check has passed, test by test: all that demand 3 rests on. Assumes nothing.
+-- What Check has passed, test by test: when it comes to a row, and when it accepts. Demand 3 rests on this alone. Assumes nothing.
 use Prim.Native.Nat.{ℕ, _+_, _<_, _≤_}
 use mathlib.Core.Path.{_≡_}
 use mathlib.Core.Bool.{true, false}
@@ -9,15 +9,16 @@ use Rattle.rows.specs.Tags.{either}
 use Rattle.rows.specs.Encoding.{badRow, badBit}
 use Rattle.lowering.specs.Tables.{readCount, callCount, readGood, callGood, readClasses, callClasses}
 use Rattle.lowering.specs.Roots.{pair, leads, rootAt, readRoot, callRoot}
-use Rattle.lowering.specs.Check.{Lowering, sourceRows, targetRows, sourceIll, targetIll, targetWidths, noClasses, classesOfReads, classes, answerOf, pairsOfReads, pairsOfCalls, callRoots, rootsEnd}
+use Rattle.lowering.specs.Check.{Lowering, sourceRows, targetRows, sourceIll, targetIll, widthsOfTarget, noClasses, classesOfReads, classes, answerOf, pairsOfReads, pairsOfCalls, callRoots, rootsEnd}
 
--- before row n: both tables, and the rows before it
+-- when it comes to row n: both tables (5, 6), and the rows before it (4, 7 to 11)
 pub record Reached (L : Lowering) (n : ℕ) : Type 0 where
   pub inside : n ≤ sourceRows L
-  pub reads : (k : ℕ) → k < readCount (L .reads) → readGood (L .reads) (L .target) (targetWidths L) (readClasses (L .reads) (noClasses L) k) k ≡ true
+  pub reads : (k : ℕ) → k < readCount (L .reads) → readGood (L .reads) (L .target) (widthsOfTarget L) (readClasses (L .reads) (noClasses L) k) k ≡ true
   pub calls : (k : ℕ) → k < callCount (L .calls) → callGood (L .calls) (L .cargs) (L .target) (callClasses (L .calls) (classesOfReads L) k) k ≡ true
   pub rows : (i : ℕ) → i < n → isAccepted (answerOf L i) ≡ true
 
+-- when it accepts: encoding (16, 17), form (1, 2), map (3), tables and rows, no dead entry (14), roots (12, 13)
 pub record Passed (L : Lowering) : Type 0 where
   pub source-rows : sourceRows L ≤ badRow Source (L .source)
   pub target-rows : targetRows L ≤ badRow Target (L .target)
