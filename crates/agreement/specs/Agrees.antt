@@ -21,20 +21,24 @@ room = 1024
 abbrev pub widthsOf : Bool → List ℕ → List ℕ → List ℕ → Out
 widthsOf source w bits lent = cond source (sourceWidths (given w 0) bits (given w 2) lent) (targetWidths (given w 0) bits lent)
 
+abbrev pub SameWidths : Bool → List ℕ → List ℕ → List ℕ → Type 0
+SameWidths source w bits lent = resultOf (widthsOf source w bits lent) ≡ result (answer w) (expected w 0)
+
 -- the bits are list 1, the lent list is the last
 abbrev pub WidthsAgree : Bool → ℕ → List ℕ → Type 0
-WidthsAgree source lists w =
-    (hasShape w lists 1 ≡ true)
-    × (resultOf (widthsOf source w (given w 1) (given w (lists - 1))) ≡ result (answer w) (expected w 0))
+WidthsAgree source lists w = (hasShape w lists 1 ≡ true) × SameWidths source w (given w 1) (given w (lists - 1))
 
 abbrev pub RootsAgree : List ℕ → Type 0
 RootsAgree w = (hasShape w 2 0 ≡ true) × (wordsOf (rootsAnswer (given w 0) (given w 1)) ≡ answer w)
 
+-- Values on a case's rows and given words
+abbrev pub SameValues : List ℕ → List ℕ → List ℕ → List ℕ → Type 0
+SameValues w bits widths numbers =
+    resultsOf (values (given w 0) bits (given w 2) widths numbers) ≡ results (answer w) (expected w 0) (expected w 1)
+
 -- the bits are list 1, the lent lists are 3 and 4
 abbrev pub ValuesAgree : List ℕ → Type 0
-ValuesAgree w =
-    (hasShape w 5 2 ≡ true)
-    × (resultsOf (values (given w 0) (given w 1) (given w 2) (given w 3) (given w 4)) ≡ results (answer w) (expected w 0) (expected w 1))
+ValuesAgree w = (hasShape w 5 2 ≡ true) × SameValues w (given w 1) (given w 3) (given w 4)
 
 -- Check on a case's lists, with these bits and lent lists
 abbrev pub checkOf : List ℕ → List ℕ → List ℕ → List ℕ → List ℕ → List ℕ → List ℕ → Outcome
@@ -43,12 +47,14 @@ checkOf w ebits tbits ws0 ws1 classes entries =
     (lowering (given w 0) ebits (given w 2) (given w 3) (given w 4) (given w 5) (given w 6) (given w 7) (given w 8) tbits (given w 10))
     ws0 ws1 classes entries
 
+abbrev pub SameCheck : List ℕ → List ℕ → List ℕ → List ℕ → List ℕ → List ℕ → List ℕ → Type 0
+SameCheck w ebits tbits ws0 ws1 classes entries =
+    checkedOf (checkOf w ebits tbits ws0 ws1 classes entries) ≡ checked (answer w) (expected w 0) (expected w 1) (expected w 2) (expected w 3)
+
 -- the bits are lists 1 and 9, the lent lists are 11 to 14
 abbrev pub CheckAgrees : List ℕ → Type 0
 CheckAgrees w =
-    (hasShape w 15 4 ≡ true)
-    × (checkedOf (checkOf w (given w 1) (given w 9) (given w 11) (given w 12) (given w 13) (given w 14))
-    ≡ checked (answer w) (expected w 0) (expected w 1) (expected w 2) (expected w 3))
+    (hasShape w 15 4 ≡ true) × SameCheck w (given w 1) (given w 9) (given w 11) (given w 12) (given w 13) (given w 14)
 
 -- the book is list 0
 abbrev pub BookAgrees : List ℕ → Type 0

@@ -3,10 +3,9 @@ ghost use mathlib.Core.Path.{_≡_};
 ghost use mathlib.Core.Bool.{true};
 ghost use Prim.Native.Nat.{_<_, _≤_};
 ghost use lib.ListN.{length, getD};
-ghost use Rattle.gilfrunt.specs.Exports.{result, resultOf, results, resultsOf, checked, checkedOf};
-ghost use Rattle.values.specs.Values.{values};
-ghost use Rattle.cases.specs.Case.{given, answer, expected};
-ghost use Rattle.agreement.specs.Agrees.{room, widthsOf, WidthsAgree, RootsAgree, ValuesAgree, checkOf, CheckAgrees, BookAgrees, SameSection, SectionAgrees, Agrees};
+ghost use Rattle.gilfrunt.specs.Exports.{result, resultOf, checked, checkedOf};
+ghost use Rattle.cases.specs.Case.{given};
+ghost use Rattle.agreement.specs.Agrees.{room, widthsOf, SameWidths, WidthsAgree, RootsAgree, SameValues, ValuesAgree, checkOf, SameCheck, CheckAgrees, BookAgrees, SameSection, SectionAgrees, Agrees};
 use answers::Words;
 
 // The longest line, and so the longest list: a line has no more words.
@@ -45,7 +44,7 @@ fn call_widths(words: &[u64], source: bool, bits: &[u8], widths: &mut [u64]) -> 
 
 // Calls on copies of the case's bits and lent list, and compares the answer and the lent list.
 fn same_widths(words: &[u64], source: bool, bits: &[u8], widths: &mut [u64]) -> bool
-    ensures agreed { λ r. ⌜ (r ≡ true → resultOf (widthsOf source (now (words .entry)) (now (bits .entry)) (now (widths .entry))) ≡ result (answer (now (words .entry))) (expected (now (words .entry)) 0)) ⌝ }
+    ensures agreed { λ r. ⌜ (r ≡ true → SameWidths source (now (words .entry)) (now (bits .entry)) (now (widths .entry))) ⌝ }
 {
     let a = call_widths(words, source, bits, widths);
     if !cases::same_answer(words, a) {
@@ -86,7 +85,7 @@ fn roots_agree(words: &[u64]) -> bool
 
 // Calls on copies of the case's bits and lent lists, and compares the answer and both lists.
 fn same_values(words: &[u64], bits: &[u8], widths: &mut [u64], numbers: &mut [u64]) -> bool
-    ensures agreed { λ r. ⌜ (r ≡ true → resultsOf (values (given (now (words .entry)) 0) (now (bits .entry)) (given (now (words .entry)) 2) (now (widths .entry)) (now (numbers .entry))) ≡ results (answer (now (words .entry))) (expected (now (words .entry)) 0) (expected (now (words .entry)) 1)) ⌝ }
+    ensures agreed { λ r. ⌜ (r ≡ true → SameValues (now (words .entry)) (now (bits .entry)) (now (widths .entry)) (now (numbers .entry))) ⌝ }
 {
     let rows = cases::given(words, 0);
     let a = gilfrunt::gilfrunt_values(rows, bits, cases::given(words, 2), widths, numbers);
@@ -126,7 +125,9 @@ fn call_check(
     classes: &mut [u64],
     entries: &mut [u64],
 ) -> Words
-    ensures outcome { λ r. ⌜ checked r (now (ws0 .exit)) (now (ws1 .exit)) (now (classes .exit)) (now (entries .exit)) ≡ checkedOf (checkOf (now (words .entry)) (now (ebits .entry)) (now (tbits .entry)) (now (ws0 .entry)) (now (ws1 .entry)) (now (classes .entry)) (now (entries .entry))) ⌝ }
+    ensures outcome { λ r. ⌜ checked r (now (ws0 .exit)) (now (ws1 .exit)) (now (classes .exit)) (now (entries .exit))
+        ≡ checkedOf (checkOf (now (words .entry)) (now (ebits .entry)) (now (tbits .entry))
+        (now (ws0 .entry)) (now (ws1 .entry)) (now (classes .entry)) (now (entries .entry))) ⌝ }
 {
     gilfrunt::gilfrunt_check(
         cases::given(words, 0),
@@ -157,7 +158,8 @@ fn same_check(
     classes: &mut [u64],
     entries: &mut [u64],
 ) -> bool
-    ensures agreed { λ r. ⌜ (r ≡ true → checkedOf (checkOf (now (words .entry)) (now (ebits .entry)) (now (tbits .entry)) (now (ws0 .entry)) (now (ws1 .entry)) (now (classes .entry)) (now (entries .entry))) ≡ checked (answer (now (words .entry))) (expected (now (words .entry)) 0) (expected (now (words .entry)) 1) (expected (now (words .entry)) 2) (expected (now (words .entry)) 3)) ⌝ }
+    ensures agreed { λ r. ⌜ (r ≡ true → SameCheck (now (words .entry)) (now (ebits .entry)) (now (tbits .entry))
+        (now (ws0 .entry)) (now (ws1 .entry)) (now (classes .entry)) (now (entries .entry))) ⌝ }
 {
     let a = call_check(words, ebits, tbits, ws0, ws1, classes, entries);
     if !cases::same_answer(words, a) {
@@ -172,7 +174,8 @@ fn same_check(
 // With copies of the lent lists, 11 to 14.
 fn lowering_agrees(words: &[u64], ebits: &[u8], tbits: &[u8]) -> bool
     requires { ⌜ length (now words) ≤ room ⌝ }
-    ensures agreed { λ r. ⌜ (r ≡ true → checkedOf (checkOf (now (words .entry)) (now (ebits .entry)) (now (tbits .entry)) (given (now (words .entry)) 11) (given (now (words .entry)) 12) (given (now (words .entry)) 13) (given (now (words .entry)) 14)) ≡ checked (answer (now (words .entry))) (expected (now (words .entry)) 0) (expected (now (words .entry)) 1) (expected (now (words .entry)) 2) (expected (now (words .entry)) 3)) ⌝ }
+    ensures agreed { λ r. ⌜ (r ≡ true → SameCheck (now (words .entry)) (now (ebits .entry)) (now (tbits .entry))
+        (given (now (words .entry)) 11) (given (now (words .entry)) 12) (given (now (words .entry)) 13) (given (now (words .entry)) 14)) ⌝ }
 {
     let mut ws0 = [0u64; ROOM];
     let mut ws1 = [0u64; ROOM];
@@ -247,7 +250,8 @@ fn same_stretch(words: &[u64], book: &[u8], number: u64) -> bool
 
 // With the section's number, the one word of list 1.
 fn same_section(words: &[u64], book: &[u8]) -> bool
-    ensures agreed { λ r. ⌜ (r ≡ true → (length (given (now (words .entry)) 1) ≡ 1) × SameSection (now (words .entry)) (now (book .entry)) (getD (given (now (words .entry)) 1) 0 0)) ⌝ }
+    ensures agreed { λ r. ⌜ (r ≡ true → (length (given (now (words .entry)) 1) ≡ 1)
+        × SameSection (now (words .entry)) (now (book .entry)) (getD (given (now (words .entry)) 1) 0 0)) ⌝ }
 {
     let numbers = cases::given(words, 1);
     if numbers.len() != 1 {

@@ -135,7 +135,8 @@ pub fn same_list(a: &[u64], b: &[u64]) -> bool
 
 // Whether a list is lent list k as it must be after the call.
 pub fn same_lent(words: &[u64], k: usize, list: &[u64]) -> bool
-    ensures equal { λ r. ⌜ (r ≡ true → now (list .entry) ≡ expected (now (words .entry)) k) × (now (list .entry) ≡ expected (now (words .entry)) k → r ≡ true) ⌝ }
+    ensures equal { λ r. ⌜ (r ≡ true → now (list .entry) ≡ expected (now (words .entry)) k)
+        × (now (list .entry) ≡ expected (now (words .entry)) k → r ≡ true) ⌝ }
 {
     same_list(list, expected(words, k))
 }

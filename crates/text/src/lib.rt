@@ -1,8 +1,9 @@
 // From text to words: lines, and in a line lower-case hexadecimal numbers with single spaces between.
 ghost use mathlib.Core.Path.{_≡_};
-ghost use Prim.Native.Nat.{_+_, _≤_, _<_};
-ghost use lib.ListN.{length};
+ghost use Prim.Native.Nat.{_+_, _-_, _≤_, _<_};
+ghost use lib.ListN.{length, getD, take, drop};
 ghost use Rattle.io.specs.Counts.{Counts};
+ghost use Rattle.text.specs.Line.{digitOf, digits, number, goodDigits, wordEnds, token, wordsIn};
 
 // A word and where the next one starts; next is 0 where there is no good word.
 struct Token {
@@ -10,7 +11,7 @@ struct Token {
     next: usize,
 }
 
-pub fn wide(x: u8) -> u64
+fn wide(x: u8) -> u64
     ensures value { λ r. ⌜ (r ≡ x) × (r < 256) ⌝ }
 {
     x as u64
@@ -33,19 +34,27 @@ pub fn line_end(text: &[u8], from: usize) -> usize
 
 // The value of a digit, and 16 for any other byte.
 fn digit(b: u8) -> u64
-    ensures most { λ r. ⌜ r ≤ 16 ⌝ }
+    ensures value { λ r. ⌜ (r ≡ digitOf b) × (r ≤ 16) ⌝ }
 {
-    match b {
-        b'0'..=b'9' => wide(b - b'0'),
-        b'a'..=b'f' => wide(b - b'a') + 10,
-        _ => 16,
+    if b < b'0' {
+        return 16;
     }
+    if b <= b'9' {
+        return wide(b - b'0');
+    }
+    if b < b'a' {
+        return 16;
+    }
+    if b <= b'f' {
+        return wide(b - b'a') + 10;
+    }
+    16
 }
 
 // The place after the digits that start at a place.
 fn digits_end(line: &[u8], from: usize) -> usize
     requires { ⌜ from ≤ length (now line) ⌝ }
-    ensures place { λ r. ⌜ (from ≤ r) × (r ≤ length (now (line .entry))) ⌝ }
+    ensures place { λ r. ⌜ (r ≡ from + digits (drop from (now (line .entry)))) × (from ≤ r) × (r ≤ length (now (line .entry))) ⌝ }
 {
     let mut at = from;
     while at < line.len() {
@@ -60,6 +69,7 @@ fn digits_end(line: &[u8], from: usize) -> usize
 // One to sixteen digits, with no 0 in front of others.
 fn good_digits(line: &[u8], from: usize, end: usize) -> bool
     requires { ⌜ (from ≤ end) × (end ≤ length (now line)) ⌝ }
+    ensures good { λ r. ⌜ r ≡ goodDigits (end - from) (getD (now (line .entry)) from 0) ⌝ }
 {
     let n = end - from;
     if n == 0 {
@@ -76,7 +86,8 @@ fn good_digits(line: &[u8], from: usize, end: usize) -> bool
 
 // The value of the digits from one place to another.
 fn value(line: &[u8], from: usize, end: usize) -> u64
-    requires { ⌜ end ≤ length (now line) ⌝ }
+    requires { ⌜ (from ≤ end) × (end ≤ length (now line)) ⌝ }
+    ensures value { λ r. ⌜ r ≡ number 0 (take (end - from) (drop from (now (line .entry)))) ⌝ }
 {
     let mut v: u64 = 0;
     let mut at = from;
@@ -87,19 +98,27 @@ fn value(line: &[u8], from: usize, end: usize) -> u64
     v
 }
 
+// Whether a space or the line's end follows.
+fn word_ends(line: &[u8], end: usize) -> bool
+    ensures ends { λ r. ⌜ r ≡ wordEnds (now (line .entry)) end ⌝ }
+{
+    if line.len() <= end {
+        return true;
+    }
+    line[end] == b' '
+}
+
 // The word at a place, which a space or the line's end must follow.
 fn next_word(line: &[u8], at: usize) -> Token
     requires { ⌜ at ≤ length (now line) ⌝ }
-    ensures place { λ r. ⌜ r .next ≤ length (now (line .entry)) + 1 ⌝ }
+    ensures word { λ r. ⌜ (r ≡ token (now (line .entry)) at) × (r .next ≤ length (now (line .entry)) + 1) ⌝ }
 {
     let end = digits_end(line, at);
     if !good_digits(line, at, end) {
         return Token { value: 0, next: 0 };
     }
-    if end < line.len() {
-        if line[end] != b' ' {
-            return Token { value: 0, next: 0 };
-        }
+    if !word_ends(line, end) {
+        return Token { value: 0, next: 0 };
     }
     Token {
         value: value(line, at, end),
@@ -111,6 +130,7 @@ fn next_word(line: &[u8], at: usize) -> Token
 // out is too short.
 pub fn read_line(line: &[u8], out: &mut [u64]) -> usize
     ensures room { λ r. ⌜ Counts r (now (out .exit)) ⌝ }
+    ensures words { λ r. ⌜ take r (now (out .exit)) ≡ wordsIn (length (now (out .entry))) (now (line .entry)) ⌝ }
 {
     let mut at = 0;
     let mut n = 0;

@@ -1,18 +1,22 @@
--- `text::digits_end` meets its contract: the place only grows, within the line. Assumes nothing.
-use Prim.Native.Nat.{_≤_, _-_}
+-- `text::digits_end` meets its contract: what is left of the digits ends at the same place. Assumes nothing.
+use Prim.Native.Nat.{_+_, _≤_, _-_}
+use mathlib.Core.Path.{_≡_, _∙_, sym, refl}
+use native.Mathlib.Omega.{arith}
+use lib.ListN.{length, drop}
+use Rattle.text.specs.Line.{digits}
+use Rattle.text.proofs.Line.{digits-past, digits-stop, digits-more}
 use borrow.Author.Needs.{needs}
-use lib.ListN.{length}
 use Rattle.text.proofs.digits_end.Statement.{statement}
 use Rattle.text.proofs.digits_end.Tie as tie
 
 abbrev Inv-loop : tie.InvT-loop
-Inv-loop line from at₀ at = (from ≤ at) × (at ≤ length line)
+Inv-loop line from at₀ at = (from ≤ at) × (at ≤ length line) × (from + digits (drop from line) ≡ at + digits (drop at line))
 
 abbrev μ-loop : tie.MeasureT-loop
 μ-loop line from at₀ at = length line - at
 
 loop-holds : tie.Need-loop-holds Inv-loop μ-loop
-loop-holds c = search needs
+loop-holds c = (omega arith, omega arith, refl)
 
 shared-slice-read-digit : tie.Need-shared-slice-read-digit Inv-loop μ-loop
 shared-slice-read-digit c = search needs
@@ -21,7 +25,10 @@ digit-requires : tie.Need-digit-requires Inv-loop μ-loop
 digit-requires c κs = search needs
 
 returns : tie.Need-returns Inv-loop μ-loop
-returns c = search needs
+returns c =
+    let l = c .before .before .before .before .loop in
+    let w = c .before .before .before .before .before .before .args .line .now in
+    (sym (l .inv .2 ∙ digits-stop w (l .at) (c .before .before .before .loop-test .taken) (sym (c .before .digit .ensures .0) ∙ c .if1 .taken)), l .inv .0, l .inv .1)
 
 add-at : tie.Need-add-at Inv-loop μ-loop
 add-at c = search needs
@@ -30,10 +37,16 @@ loop-less : tie.Need-loop-less Inv-loop μ-loop
 loop-less c = search needs
 
 loop-again : tie.Need-loop-again Inv-loop μ-loop
-loop-again c = search needs
+loop-again c =
+    let l = c .before .before .before .before .loop in
+    let w = c .before .before .before .before .before .before .args .line .now in
+    (omega arith, omega arith, l .inv .2 ∙ digits-more w (l .at) (c .before .before .before .loop-test .taken) (λ z. c .if1 .left (c .before .digit .ensures .0 ∙ z)))
 
 returns-2 : tie.Need-returns-2 Inv-loop μ-loop
-returns-2 c = search needs
+returns-2 c =
+    let l = c .before .loop in
+    let w = c .before .before .before .args .line .now in
+    (sym (l .inv .2 ∙ digits-past w (l .at) (c .loop-test .left)), l .inv .0, l .inv .1)
 
 pub digits-end-spec : {M : Type 1} → statement M
 digits-end-spec =

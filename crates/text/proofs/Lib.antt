@@ -1,0 +1,2 @@
+-- The proofs' own laws.
+pub mod Line
