@@ -1,0 +1,27 @@
+-- The line of the words of the verdict; where it is `accepted`, the verdict is. Assumes nothing.
+use mathlib.Core.Path.{ap, _∙_}
+use borrow.Author.Needs.{needs}
+use Rattle.answers.specs.declared.Answer.{Answer}
+use Rattle.answers.specs.Answer.{wordsOf}
+use Rattle.line.specs.Line.{lineOf}
+use Rattle.printed.proofs.Sound.{line-sound}
+use Rattle.printed.proofs.verdict_line.Statement.{statement}
+use Rattle.printed.proofs.verdict_line.Tie as tie
+
+verdict-requires : tie.Need-verdict-requires
+verdict-requires c κs = search needs
+
+words-of-requires : tie.Need-words-of-requires
+words-of-requires c κs = search needs
+
+write-line-requires : tie.Need-write-line-requires
+write-line-requires c κs = search needs
+
+returns : tie.Need-returns
+returns c =
+    let v = c .before .before .before .verdict .ensures in
+    let l = c .write-line .ensures .1 ∙ ap lineOf (c .before .before .words-of .ensures) in
+    (c .write-line .ensures .0, l ∙ ap (λ (a : Answer). lineOf (wordsOf a)) (v .0), line-sound _ _ _ l (v .1))
+
+pub verdict-line-spec : {M : Type 1} → statement M
+verdict-line-spec = tie.close (tie.spec verdict-requires words-of-requires write-line-requires returns)
