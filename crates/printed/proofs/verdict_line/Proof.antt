@@ -19,9 +19,10 @@ write-line-requires c κs = search needs
 
 returns : tie.Need-returns
 returns c =
-    let v = c .before .before .before .verdict .ensures in
+    let k = c .before .before .before in
+    let v = k .verdict .ensures in
     let l = c .write-line .ensures .1 ∙ ap lineOf (c .before .before .words-of .ensures) in
-    (c .write-line .ensures .0, (l ∙ ap (λ (a : Answer). lineOf (wordsOf a)) (v .0), line-sound _ _ _ l (v .1)))
+    (c .write-line .ensures .0, (l ∙ ap (λ (a : Answer). lineOf (wordsOf a)) (v .0), line-sound (k .before .before .args .book .now) _ (k .verdict .result) l (v .1)))
 
 pub verdict-line-spec : {M : Type 1} → statement M
 verdict-line-spec = tie.close (tie.spec verdict-requires words-of-requires write-line-requires returns)
