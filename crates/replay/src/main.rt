@@ -1,7 +1,11 @@
 // Replays a fixed list of cases from standard input against the library.
 // Prints the first disagreeing lines, the number of cases and the number of disagreements.
+ghost use mathlib.Core.Path.{_≡_};
+ghost use mathlib.Core.Bool.{true};
 ghost use Prim.Native.Nat.{_+_, _≤_, _<_};
 ghost use lib.ListN.{length};
+ghost use Rattle.text.specs.Line.{wordsIn};
+ghost use Rattle.agreement.specs.Agrees.{room, Agrees};
 use libc::STDIN_FILENO;
 use libc::STDOUT_FILENO;
 
@@ -19,7 +23,9 @@ fn print_number(label: &[u8], n: usize) {
 }
 
 // A malformed line has no words, and so does not agree.
-fn line_agrees(line: &[u8]) -> bool {
+fn line_agrees(line: &[u8]) -> bool
+    ensures agreed { λ r. ⌜ (r ≡ true → Agrees (wordsIn room (now (line .entry)))) ⌝ }
+{
     let mut words = [0u64; agreement::ROOM];
     let n = text::read_line(line, &mut words);
     agreement::agrees(&words[..n])
