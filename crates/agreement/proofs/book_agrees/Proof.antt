@@ -46,7 +46,7 @@ same-answer-requires c κs = search needs
 returns-3 : tie.Need-returns-3
 returns-3 c =
     let book = c .before .before .before .before .before .before .copy-bytes .ensures .1 (not-false _ (c .before .before .before .before .if2 .left)) ∙ c .before .before .before .before .before .before .before .before .given .ensures .0 in
-    let words = c .before .words-of .ensures ∙ ap wordsOf (c .before .before .verdict .ensures) ∙ ap (λ (x : List ℕ). wordsOf (verdict x)) book in
+    let words = c .before .words-of .ensures ∙ ap wordsOf (c .before .before .verdict .ensures .0) ∙ ap (λ (x : List ℕ). wordsOf (verdict x)) book in
     λ e. (sym (c .before .before .before .before .before .before .before .before .before .before .has-shape .ensures) ∙ not-false _ (c .before .before .before .before .before .before .before .before .before .if1 .left), sym words ∙ c .same-answer .ensures .0 e)
 
 pub book-agrees-spec : {M : Type 1} → statement M

@@ -60,7 +60,7 @@ returns c =
     (c .before .before .before .before .before .before .before .before .before .before .before .before .before .before .before .given7 .ensures .0)
     (c .before .before .before .before .before .before .before .before .before .before .before .before .before .before .given8 .ensures .0)
     (c .before .before .before .before .before .before .before .before .before .before .before .before .before .given9 .ensures .0)
-    (sym (c .before .before .before .before .before .before .before .before .gilfrunt-check .ensures)))
+    (sym (c .before .before .before .before .before .before .before .before .gilfrunt-check .ensures .0)))
 
 pub call-check-spec : {M : Type 1} → statement M
 call-check-spec =
