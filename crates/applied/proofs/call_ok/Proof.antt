@@ -54,19 +54,25 @@ array-read-k c = search needs
 
 add-if4 : tie.Need-add-if4
 add-if4 c =
-    let s = c .before .before .before .before .before .before .before .before .before .before .before .before .before .before .before .before .args in
+    let at-row = c .before .before .before .before .before .before .before .before in
+    let at-start = at-row .before .before .before .before .before .before .before .before in
+    let s = at-start .args in
     let h = within-le (length (s .calls .now)) (getD (s .ent .now) (s .r) 0) 4 _ (c .before .within .ensures) (c .if3 .left) in
     omega (arith, h)
 
 mul-if4 : tie.Need-mul-if4
 mul-if4 c =
-    let s = c .before .before .before .before .before .before .before .before .before .before .before .before .before .before .before .before .args in
+    let at-row = c .before .before .before .before .before .before .before .before in
+    let at-start = at-row .before .before .before .before .before .before .before .before in
+    let s = at-start .args in
     let h = within-le (length (s .calls .now)) (getD (s .ent .now) (s .r) 0) 4 _ (c .before .within .ensures) (c .if3 .left) in
     omega (arith, h)
 
 shared-slice-read-if4 : tie.Need-shared-slice-read-if4
 shared-slice-read-if4 c =
-    let s = c .before .before .before .before .before .before .before .before .before .before .before .before .before .before .before .before .before .args in
+    let at-row = c .before .before .before .before .before .before .before .before .before in
+    let at-start = at-row .before .before .before .before .before .before .before .before in
+    let s = at-start .args in
     let h = within-le (length (s .calls .now)) (getD (s .ent .now) (s .r) 0) 4 _ (c .before .before .within .ensures) (c .before .if3 .left) in
     omega (arith, h)
 
@@ -79,42 +85,61 @@ returns-4 c = rw (tested-yes _ _ (rw (c .before .before .before .before .before 
 
 add-if5 : tie.Need-add-if5
 add-if5 c =
-    let s = c .before .before .before .before .before .before .before .before .before .before .before .before .before .before .before .before .before .before .args in
+    let at-row = c .before .before .before .before .before .before .before .before .before .before in
+    let at-start = at-row .before .before .before .before .before .before .before .before in
+    let s = at-start .args in
     let h = within-le (length (s .calls .now)) (getD (s .ent .now) (s .r) 0) 4 _ (c .before .before .before .within .ensures) (c .before .before .if3 .left) in
     omega (arith, h)
 
 mul-if5 : tie.Need-mul-if5
 mul-if5 c =
-    let s = c .before .before .before .before .before .before .before .before .before .before .before .before .before .before .before .before .before .before .args in
+    let at-row = c .before .before .before .before .before .before .before .before .before .before in
+    let at-start = at-row .before .before .before .before .before .before .before .before in
+    let s = at-start .args in
     let h = within-le (length (s .calls .now)) (getD (s .ent .now) (s .r) 0) 4 _ (c .before .before .before .within .ensures) (c .before .before .if3 .left) in
     omega (arith, h)
 
 shared-slice-read-if5 : tie.Need-shared-slice-read-if5
 shared-slice-read-if5 c =
-    let s = c .before .before .before .before .before .before .before .before .before .before .before .before .before .before .before .before .before .before .before .args in
+    let at-row = c .before .before .before .before .before .before .before .before .before .before .before in
+    let at-start = at-row .before .before .before .before .before .before .before .before in
+    let s = at-start .args in
     let h = within-le (length (s .calls .now)) (getD (s .ent .now) (s .r) 0) 4 _ (c .before .before .before .before .within .ensures) (c .before .before .before .if3 .left) in
     omega (arith, h)
 
 returns-5 : tie.Need-returns-5
 unfolding callMatches all
-returns-5 c = rw (tested-yes _ _ (rw (c .before .before .before .before .before .before .before .before .before .before .before .before .row .ensures) at (c .before .before .before .before .before .before .before .before .before .before .before .row-is-var .ensures)) (c .before .before .before .before .before .before .before .before .before .before .if1 .left), tested-yes _ _ (c .before .before .before .before .before .before .before .before .call-class .ensures) (c .before .before .before .before .before .before .before .if2 .left), tested-yes _ _ (c .before .before .before .before .before .within .ensures) (c .before .before .before .before .if3 .left), eq-eqb _ _ (c .before .before .if4 .left), ne-eqb _ _ (c .if5 .taken))
+returns-5 c =
+    let at-else2 = c .before .before .before .before .before .before .before in
+    let at-call-class = at-else2 .before in
+    let at-else1 = at-call-class .before .before in
+    let at-row-is-var = at-else1 .before in
+    let at-row = at-row-is-var .before in
+    rw (tested-yes _ _ (rw (at-row .row .ensures) at (at-row-is-var .row-is-var .ensures)) (at-else1 .if1 .left), tested-yes _ _ (at-call-class .call-class .ensures) (at-else2 .if2 .left), tested-yes _ _ (c .before .before .before .before .before .within .ensures) (c .before .before .before .before .if3 .left), eq-eqb _ _ (c .before .before .if4 .left), ne-eqb _ _ (c .if5 .taken))
 
 add-cs : tie.Need-add-cs
 add-cs c =
-    let s = c .before .before .before .before .before .before .before .before .before .before .before .before .before .before .before .before .before .before .before .before .args in
+    let at-row-is-var = c .before .before .before .before .before .before .before .before .before .before .before in
+    let at-start = at-row-is-var .before .before .before .before .before .before .before .before .before in
+    let s = at-start .args in
     let h = within-le (length (s .calls .now)) (getD (s .ent .now) (s .r) 0) 4 _ (c .before .before .before .before .before .within .ensures) (c .before .before .before .before .if3 .left) in
     omega (arith, h)
 
 mul-cs : tie.Need-mul-cs
 mul-cs c =
-    let s = c .before .before .before .before .before .before .before .before .before .before .before .before .before .before .before .before .before .before .before .before .args in
+    let at-row-is-var = c .before .before .before .before .before .before .before .before .before .before .before in
+    let at-start = at-row-is-var .before .before .before .before .before .before .before .before .before in
+    let s = at-start .args in
     let h = within-le (length (s .calls .now)) (getD (s .ent .now) (s .r) 0) 4 _ (c .before .before .before .before .before .within .ensures) (c .before .before .before .before .if3 .left) in
     omega (arith, h)
 
 shared-slice-read-cs : tie.Need-shared-slice-read-cs
 shared-slice-read-cs c =
-    let s = c .before .before .before .before .before .before .before .before .before .before .before .before .before .before .before .before .before .before .before .before .before .args in
-    let h = within-le (length (s .calls .now)) (getD (s .ent .now) (s .r) 0) 4 _ (c .before .before .before .before .before .before .within .ensures) (c .before .before .before .before .before .if3 .left) in
+    let at-within = c .before .before .before .before .before .before in
+    let at-row = at-within .before .before .before .before .before .before .before in
+    let at-start = at-row .before .before .before .before .before .before .before .before in
+    let s = at-start .args in
+    let h = within-le (length (s .calls .now)) (getD (s .ent .now) (s .r) 0) 4 _ (at-within .within .ensures) (c .before .before .before .before .before .if3 .left) in
     omega (arith, h)
 
 within-requires-2 : tie.Need-within-requires-2
@@ -122,19 +147,39 @@ within-requires-2 c κs = search needs
 
 returns-6 : tie.Need-returns-6
 unfolding callMatches all
-returns-6 c = rw (tested-yes _ _ (rw (c .before .before .before .before .before .before .before .before .before .before .before .before .before .before .before .row .ensures) at (c .before .before .before .before .before .before .before .before .before .before .before .before .before .before .row-is-var .ensures)) (c .before .before .before .before .before .before .before .before .before .before .before .before .before .if1 .left), tested-yes _ _ (c .before .before .before .before .before .before .before .before .before .before .before .call-class .ensures) (c .before .before .before .before .before .before .before .before .before .before .if2 .left), tested-yes _ _ (c .before .before .before .before .before .before .before .before .within .ensures) (c .before .before .before .before .before .before .before .if3 .left), eq-eqb _ _ (c .before .before .before .before .before .if4 .left), eq-eqb _ _ (c .before .before .before .if5 .left), tested-no _ _ (c .before .within2 .ensures) (c .if6 .taken))
+returns-6 c =
+    let at-else3 = c .before .before .before .before .before .before .before in
+    let at-within = at-else3 .before in
+    let at-else2 = at-within .before .before in
+    let at-call-class = at-else2 .before in
+    let at-else1 = at-call-class .before .before in
+    let at-row-is-var = at-else1 .before in
+    let at-row = at-row-is-var .before in
+    rw (tested-yes _ _ (rw (at-row .row .ensures) at (at-row-is-var .row-is-var .ensures)) (at-else1 .if1 .left), tested-yes _ _ (at-call-class .call-class .ensures) (at-else2 .if2 .left), tested-yes _ _ (at-within .within .ensures) (at-else3 .if3 .left), eq-eqb _ _ (c .before .before .before .before .before .if4 .left), eq-eqb _ _ (c .before .before .before .if5 .left), tested-no _ _ (c .before .within2 .ensures) (c .if6 .taken))
 
 array-read-args-match : tie.Need-array-read-args-match
 array-read-args-match c = search needs
 
 args-match-requires : tie.Need-args-match-requires
 args-match-requires c κs =
-    let s = c .before .before .before .before .before .before .before .before .before .before .before .before .before .before .before .before .before .before .before .before .before .before .before .args in
-    (c .before .before .before .before .before .before .before .before .before .before .before .before .before .before .before .before .before .before .before .before .before .before .before .pre .1, within-le (length (s .cargs .now)) _ (getD (s .t8) 4 0) _ (c .before .within2 .ensures) (c .if6 .left))
+    let at-call-class = c .before .before .before .before .before .before .before .before .before .before .before in
+    let at-row = at-call-class .before .before .before .before in
+    let at-start = at-row .before .before .before .before .before .before .before .before in
+    let s = at-start .args in
+    (at-start .pre .1, within-le (length (s .cargs .now)) _ (getD (s .t8) 4 0) _ (c .before .within2 .ensures) (c .if6 .left))
 
 returns-7 : tie.Need-returns-7
 unfolding callMatches all
-returns-7 c = rw (tested-yes _ _ (rw (c .before .before .before .before .before .before .before .before .before .before .before .before .before .before .before .before .row .ensures) at (c .before .before .before .before .before .before .before .before .before .before .before .before .before .before .before .row-is-var .ensures)) (c .before .before .before .before .before .before .before .before .before .before .before .before .before .before .if1 .left), tested-yes _ _ (c .before .before .before .before .before .before .before .before .before .before .before .before .call-class .ensures) (c .before .before .before .before .before .before .before .before .before .before .before .if2 .left), tested-yes _ _ (c .before .before .before .before .before .before .before .before .before .within .ensures) (c .before .before .before .before .before .before .before .before .if3 .left), eq-eqb _ _ (c .before .before .before .before .before .before .if4 .left), eq-eqb _ _ (c .before .before .before .before .if5 .left), tested-yes _ _ (c .before .before .within2 .ensures) (c .before .if6 .left), c .args-match .ensures) (last-test _)
+returns-7 c =
+    let at-else4 = c .before .before .before .before .before .before in
+    let at-else3 = at-else4 .before .before in
+    let at-within = at-else3 .before in
+    let at-else2 = at-within .before .before in
+    let at-call-class = at-else2 .before in
+    let at-else1 = at-call-class .before .before in
+    let at-row-is-var = at-else1 .before in
+    let at-row = at-row-is-var .before in
+    rw (tested-yes _ _ (rw (at-row .row .ensures) at (at-row-is-var .row-is-var .ensures)) (at-else1 .if1 .left), tested-yes _ _ (at-call-class .call-class .ensures) (at-else2 .if2 .left), tested-yes _ _ (at-within .within .ensures) (at-else3 .if3 .left), eq-eqb _ _ (at-else4 .if4 .left), eq-eqb _ _ (c .before .before .before .before .if5 .left), tested-yes _ _ (c .before .before .within2 .ensures) (c .before .if6 .left), c .args-match .ensures) (last-test _)
 
 pub call-ok-spec : {M : Type 1} → statement M
 call-ok-spec =

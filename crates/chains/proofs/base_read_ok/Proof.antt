@@ -45,19 +45,25 @@ returns-3 c = rw (lt-ltb _ _ (rw (c .before .before .before .before .before .bef
 
 add-if4 : tie.Need-add-if4
 add-if4 c =
-    let s = c .before .before .before .before .before .before .before .before .before .before .before .before .before .args in
+    let at-row-count = c .before .before .before .before .before .before .before in
+    let at-start = at-row-count .before .before .before .before .before .before in
+    let s = at-start .args in
     let h = within-le (length (s .reads .now)) (getD (s .ent .now) (s .r) 0) 3 _ (c .before .within .ensures) (c .if3 .left) in
     omega (arith, h)
 
 mul-if4 : tie.Need-mul-if4
 mul-if4 c =
-    let s = c .before .before .before .before .before .before .before .before .before .before .before .before .before .args in
+    let at-row-count = c .before .before .before .before .before .before .before in
+    let at-start = at-row-count .before .before .before .before .before .before in
+    let s = at-start .args in
     let h = within-le (length (s .reads .now)) (getD (s .ent .now) (s .r) 0) 3 _ (c .before .within .ensures) (c .if3 .left) in
     omega (arith, h)
 
 shared-slice-read-if4 : tie.Need-shared-slice-read-if4
 shared-slice-read-if4 c =
-    let s = c .before .before .before .before .before .before .before .before .before .before .before .before .before .before .args in
+    let at-row-count = c .before .before .before .before .before .before .before .before in
+    let at-start = at-row-count .before .before .before .before .before .before in
+    let s = at-start .args in
     let h = within-le (length (s .reads .now)) (getD (s .ent .now) (s .r) 0) 3 _ (c .before .before .within .ensures) (c .before .if3 .left) in
     omega (arith, h)
 
@@ -67,19 +73,25 @@ returns-4 c = rw (lt-ltb _ _ (rw (c .before .before .before .before .before .bef
 
 add-result : tie.Need-add-result
 add-result c =
-    let s = c .before .before .before .before .before .before .before .before .before .before .before .before .before .before .before .args in
+    let at-row-count = c .before .before .before .before .before .before .before .before .before in
+    let at-start = at-row-count .before .before .before .before .before .before in
+    let s = at-start .args in
     let h = within-le (length (s .reads .now)) (getD (s .ent .now) (s .r) 0) 3 _ (c .before .before .before .within .ensures) (c .before .before .if3 .left) in
     omega (arith, h)
 
 mul-result : tie.Need-mul-result
 mul-result c =
-    let s = c .before .before .before .before .before .before .before .before .before .before .before .before .before .before .before .args in
+    let at-row-count = c .before .before .before .before .before .before .before .before .before in
+    let at-start = at-row-count .before .before .before .before .before .before in
+    let s = at-start .args in
     let h = within-le (length (s .reads .now)) (getD (s .ent .now) (s .r) 0) 3 _ (c .before .before .before .within .ensures) (c .before .before .if3 .left) in
     omega (arith, h)
 
 shared-slice-read-result : tie.Need-shared-slice-read-result
 shared-slice-read-result c =
-    let s = c .before .before .before .before .before .before .before .before .before .before .before .before .before .before .before .before .args in
+    let at-row-count = c .before .before .before .before .before .before .before .before .before .before in
+    let at-start = at-row-count .before .before .before .before .before .before in
+    let s = at-start .args in
     let h = within-le (length (s .reads .now)) (getD (s .ent .now) (s .r) 0) 3 _ (c .before .before .before .before .within .ensures) (c .before .before .before .if3 .left) in
     omega (arith, h)
 

@@ -53,10 +53,13 @@ pairs-less c = omega arith
 
 pairs-again : tie.Need-pairs-again Inv-pairs μ-pairs
 pairs-again c =
-    let s = c .before .before .before .before .before .before .before .before .before .before .before .before .before .before .args in
+    let at-map-at = c .before .before .before .before .before .before in
+    let at-row = at-map-at .before in
+    let at-start = at-row .before .before .before .before .before .before .before in
+    let s = at-start .args in
     let w = along (s .source .now) (s .ebits .now) (s .eside .now) (s .map .now) (s .target .now) (s .j) in
     let l = c .before .before .before .before .before .pairs in
-    (omega arith, l .inv .1 ∙ walk-step _ _ _ _ _ _ (s .k) (s .s) (l .l) (l .row) (c .before .before .before .before .if2 .left) ∙ ap (λ (z : Walk). onward z (w (s .k - (l .l + 1)) (s .s + 2 * (l .l + 1)))) (sym (rw (c .before .before .before .before .before .before .before .row .ensures, c .before .before .before .before .before .before .map-at .ensures) at (c .before .before .before .pair-step .ensures)) ∙ c .before .step .given .1))
+    (omega arith, l .inv .1 ∙ walk-step _ _ _ _ _ _ (s .k) (s .s) (l .l) (l .row) (c .before .before .before .before .if2 .left) ∙ ap (λ (z : Walk). onward z (w (s .k - (l .l + 1)) (s .s + 2 * (l .l + 1)))) (sym (rw (at-row .row .ensures, at-map-at .map-at .ensures) at (c .before .before .before .pair-step .ensures)) ∙ c .before .step .given .1))
 
 returns-2 : tie.Need-returns-2 Inv-pairs μ-pairs
 returns-2 c =
@@ -66,7 +69,9 @@ returns-2 c =
 
 returns-3 : tie.Need-returns-3 Inv-pairs μ-pairs
 returns-3 c =
-    let s = c .before .before .before .before .before .before .before .before .before .before .before .before .args in
+    let at-else1 = c .before .before .before .before .before .before in
+    let at-start = at-else1 .before .before .before .before .before .before in
+    let s = at-start .args in
     let w = along (s .source .now) (s .ebits .now) (s .eside .now) (s .map .now) (s .target .now) (s .j) in
     let l = c .before .before .before .pairs in
     sym (l .inv .1 ∙ walk-step _ _ _ _ _ _ (s .k) (s .s) (l .l) (l .row) (c .before .before .if2 .left) ∙ ap (λ (z : Walk). onward z (w (s .k - (l .l + 1)) (s .s + 2 * (l .l + 1)))) (sym (rw (c .before .before .before .before .before .row .ensures, c .before .before .before .before .map-at .ensures) at (c .before .pair-step .ensures))) ∙ onward-stays _ _ (λ z e. ⊎-elim (λ h. omega arith) (λ h. omega arith) (rw e at (c .match .keys2))))

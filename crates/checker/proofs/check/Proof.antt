@@ -1,15 +1,39 @@
 -- `checker::check` meets its contract. Assumes nothing.
-use mathlib.Core.Path.{refl, sym, _∙_}
+use mathlib.Core.Path.{_≡_, refl, sym, _∙_}
+use mathlib.Core.Bool.{true}
 use mathlib.Core.List.{[]}
 use borrow.Author.Tests.{not-true, not-false}
 use lib.ListN.{length}
 use lib.Seq.{length-take-le}
+use Rattle.answers.specs.Answer.{isAccepted}
 use Rattle.rows.specs.declared.Graph.the-variants.{Source, Target}
-use Rattle.lowering.specs.Check.{lowering}
-use Rattle.checker.proofs.Outcome.{widths-front, widths-cleared, count-done, graph-done, match-done, accept-done, room-0, room-1, room-2, room-3, forms-formed, by-lists, zeros-long}
+use Rattle.lowering.specs.Check.{Lowering, lowering}
+use Rattle.checker.proofs.Outcome.{counts, widths-front, widths-cleared, count-done, graph-done, match-done, accept-done, room-0, room-1, room-2, room-3, forms-formed, by-lists, zeros-long}
 use borrow.Author.Needs.{needs}
 use Rattle.checker.proofs.check.Statement.{statement}
 use Rattle.checker.proofs.check.Tie as tie
+
+-- the start, from the first place past what is known of the lists
+abbrev start : tie.After-count-answer → tie.Start
+start c = c .before .before .before .before .before .before .before .before .before .before .before .before .before .before .before .before
+
+abbrev input : tie.Start → Lowering
+input c =
+    let s = c .args in
+    lowering (s .source .now) (s .ebits .now) (s .eside .now) (s .eroots .now) (s .map .now) (s .reads .now) (s .calls .now) (s .cargs .now) (s .target .now)
+    (s .tbits .now) (s .troots .now)
+
+-- the counts pass, and the forms
+counts-pass : (c : tie.Else1)
+    → (let at-start = start (c .before .before) in
+    let s = at-start .args in
+    isAccepted (counts (input at-start) (s .ws0 .now) (s .ws1 .now) (s .cls .now) (s .ent .now)) ≡ true)
+counts-pass c =
+    let s = start (c .before .before) .args in
+    rw (c .before .before .count-answer .ensures (s .source .now) (s .target .now) refl refl) at (sym (c .before .is-accepted .ensures) ∙ not-false _ (c .if1 .left))
+
+forms-accepted : (c : tie.Else2) → isAccepted (c .before .before .before .before .before .before .graphs .result) ≡ true
+forms-accepted c = sym (c .before .is-accepted2 .ensures) ∙ not-false _ (c .if2 .left)
 
 count-answer-requires : tie.Need-count-answer-requires
 count-answer-requires c κs = search needs
@@ -19,15 +43,19 @@ is-accepted-requires c κs = search needs
 
 returns : tie.Need-returns
 returns c =
-    let s = c .before .before .before .before .before .before .before .before .before .before .before .before .before .before .before .before .before .before .args in
-    let L = lowering (s .source .now) (s .ebits .now) (s .eside .now) (s .eroots .now) (s .map .now) (s .reads .now) (s .calls .now) (s .cargs .now) (s .target .now) (s .tbits .now) (s .troots .now) in
-    count-done L (s .ws0 .now) (s .ws1 .now) (s .cls .now) (s .ent .now) _ (c .before .before .count-answer .ensures (s .source .now) (s .target .now) refl refl) (sym (c .before .is-accepted .ensures) ∙ not-true _ (c .if1 .taken))
+    let at-count-answer = c .before .before in
+    let at-start = start at-count-answer in
+    let s = at-start .args in
+    let L = input at-start in
+    count-done L (s .ws0 .now) (s .ws1 .now) (s .cls .now) (s .ent .now) _ (at-count-answer .count-answer .ensures (s .source .now) (s .target .now) refl refl) (sym (c .before .is-accepted .ensures) ∙ not-true _ (c .if1 .taken))
 
 graphs-requires : tie.Need-graphs-requires
 graphs-requires c κs =
-    let s = c .before .before .before .before .before .before .before .before .before .before .before .before .before .before .before .before .before .before .before .before .args in
-    let L = lowering (s .source .now) (s .ebits .now) (s .eside .now) (s .eroots .now) (s .map .now) (s .reads .now) (s .calls .now) (s .cargs .now) (s .target .now) (s .tbits .now) (s .troots .now) in
-    let c1 = rw (c .before .before .before .before .count-answer .ensures (s .source .now) (s .target .now) refl refl) at (sym (c .before .before .before .is-accepted .ensures) ∙ not-false _ (c .before .before .if1 .left)) in
+    let at-count-answer = c .before .before .before .before in
+    let at-start = start at-count-answer in
+    let s = at-start .args in
+    let L = input at-start in
+    let c1 = counts-pass (c .before .before) in
     (room-0 L (s .ws0 .now) (s .ws1 .now) (s .cls .now) (s .ent .now) c1, room-1 L (s .ws0 .now) (s .ws1 .now) (s .cls .now) (s .ent .now) c1)
 
 is-accepted-requires-2 : tie.Need-is-accepted-requires-2
@@ -50,38 +78,53 @@ same-length-4 c = search needs
 
 returns-2 : tie.Need-returns-2
 returns-2 c =
-    let s = c .before .before .before .before .before .before .before .before .before .before .before .before .before .before .before .before .before .before .before .before .before .before .before .before .before .before .before .before .before .before .before .before .before .before .before .before .before .before .before .before .args in
-    let L = lowering (s .source .now) (s .ebits .now) (s .eside .now) (s .eroots .now) (s .map .now) (s .reads .now) (s .calls .now) (s .cargs .now) (s .target .now) (s .tbits .now) (s .troots .now) in
-    let c1 = rw (c .before .before .before .before .before .before .before .before .before .before .before .before .before .before .before .before .before .before .before .before .before .before .before .before .count-answer .ensures (s .source .now) (s .target .now) refl refl) at (sym (c .before .before .before .before .before .before .before .before .before .before .before .before .before .before .before .before .before .before .before .before .before .before .before .is-accepted .ensures) ∙ not-false _ (c .before .before .before .before .before .before .before .before .before .before .before .before .before .before .before .before .before .before .before .before .before .before .if1 .left)) in
-    let z = c .before .before .before .before .before .before .before .before .clear-all .ensures in
-    let k = c .before .before .before .before .before .before .before .before .before .before .before .before .before .before .before .before .before .before .before .graphs in
-    by-lists _ _ _ _ _ _ _ _ _ _ (zeros-long _ (length (s .ws0 .now)) _ (z .0) (k .kept .1 .1 .1 .1 .1 .0)) (zeros-long _ (length (s .ws1 .now)) _ (z .1 .0) (k .kept .1 .1 .1 .1 .1 .1 .0)) (z .1 .1 .0) (z .1 .1 .1) (graph-done L (s .ws0 .now) (s .ws1 .now) (s .cls .now) (s .ent .now) _ c1 (k .ensures .0) (sym (c .before .before .before .before .before .before .before .before .before .before .before .before .before .before .is-accepted2 .ensures) ∙ not-true _ (c .before .before .before .before .before .before .before .before .before .before .before .before .before .if2 .taken)))
+    let at-clear-all = c .before .before .before .before .before .before .before .before in
+    let at-then2 = at-clear-all .before .before .before .before .before in
+    let at-is-accepted2 = at-then2 .before in
+    let at-graphs = at-is-accepted2 .before .before .before .before .before in
+    let at-else1 = at-graphs .before .before .before in
+    let at-start = start (at-else1 .before .before) in
+    let s = at-start .args in
+    let L = input at-start in
+    let c1 = counts-pass at-else1 in
+    let z = at-clear-all .clear-all .ensures in
+    let k = at-graphs .graphs in
+    by-lists _ _ _ _ _ _ _ _ _ _ (zeros-long _ (length (s .ws0 .now)) _ (z .0) (k .kept .1 .1 .1 .1 .1 .0)) (zeros-long _ (length (s .ws1 .now)) _ (z .1 .0) (k .kept .1 .1 .1 .1 .1 .1 .0)) (z .1 .1 .0) (z .1 .1 .1) (graph-done L (s .ws0 .now) (s .ws1 .now) (s .cls .now) (s .ent .now) _ c1 (k .ensures .0) (sym (at-is-accepted2 .is-accepted2 .ensures) ∙ not-true _ (at-then2 .if2 .taken)))
 
 row-count-requires : tie.Need-row-count-requires
 row-count-requires c κs = search needs
 
 slice-reshare-prefix-lowered : tie.Need-slice-reshare-prefix-lowered
 slice-reshare-prefix-lowered c =
-    let s = c .before .before .before .before .before .before .before .before .before .before .before .before .before .before .before .before .before .before .before .before .before .before .before .before .before .before .before .before .args in
-    let L = lowering (s .source .now) (s .ebits .now) (s .eside .now) (s .eroots .now) (s .map .now) (s .reads .now) (s .calls .now) (s .cargs .now) (s .target .now) (s .tbits .now) (s .troots .now) in
-    let c1 = rw (c .before .before .before .before .before .before .before .before .before .before .before .before .count-answer .ensures (s .source .now) (s .target .now) refl refl) at (sym (c .before .before .before .before .before .before .before .before .before .before .before .is-accepted .ensures) ∙ not-false _ (c .before .before .before .before .before .before .before .before .before .before .if1 .left)) in
-    rw (c .row-count .ensures, c .before .before .before .before .before .before .before .graphs .kept .1 .1 .1 .1 .1 .1 .0) (room-1 L (s .ws0 .now) (s .ws1 .now) (s .cls .now) (s .ent .now) c1)
+    let at-graphs = c .before .before .before .before .before .before .before in
+    let at-else1 = at-graphs .before .before .before in
+    let at-start = start (at-else1 .before .before) in
+    let s = at-start .args in
+    let L = input at-start in
+    let c1 = counts-pass at-else1 in
+    rw (c .row-count .ensures, at-graphs .graphs .kept .1 .1 .1 .1 .1 .1 .0) (room-1 L (s .ws0 .now) (s .ws1 .now) (s .cls .now) (s .ent .now) c1)
 
 slice-aggregate-lowered : tie.Need-slice-aggregate-lowered
 slice-aggregate-lowered c =
-    let s = c .before .before .before .before .before .before .before .before .before .before .before .before .before .before .before .before .before .before .before .before .before .before .before .before .before .before .before .before .before .args in
-    let L = lowering (s .source .now) (s .ebits .now) (s .eside .now) (s .eroots .now) (s .map .now) (s .reads .now) (s .calls .now) (s .cargs .now) (s .target .now) (s .tbits .now) (s .troots .now) in
-    let c1 = rw (c .before .before .before .before .before .before .before .before .before .before .before .before .before .count-answer .ensures (s .source .now) (s .target .now) refl refl) at (sym (c .before .before .before .before .before .before .before .before .before .before .before .before .is-accepted .ensures) ∙ not-false _ (c .before .before .before .before .before .before .before .before .before .before .before .if1 .left)) in
-    sym (length-take-le _ _ (rw (c .before .row-count .ensures, c .before .before .before .before .before .before .before .before .graphs .kept .1 .1 .1 .1 .1 .1 .0) (room-1 L (s .ws0 .now) (s .ws1 .now) (s .cls .now) (s .ent .now) c1)))
+    let at-graphs = c .before .before .before .before .before .before .before .before in
+    let at-else1 = at-graphs .before .before .before in
+    let at-start = start (at-else1 .before .before) in
+    let s = at-start .args in
+    let L = input at-start in
+    let c1 = counts-pass at-else1 in
+    sym (length-take-le _ _ (rw (c .before .row-count .ensures, at-graphs .graphs .kept .1 .1 .1 .1 .1 .1 .0) (room-1 L (s .ws0 .now) (s .ws1 .now) (s .cls .now) (s .ent .now) c1)))
 
 lowered-requires : tie.Need-lowered-requires
 lowered-requires c κs =
-    let s = c .before .before .before .before .before .before .before .before .before .before .before .before .before .before .before .before .before .before .before .before .before .before .before .before .before .before .before .before .before .before .before .args in
-    let L = lowering (s .source .now) (s .ebits .now) (s .eside .now) (s .eroots .now) (s .map .now) (s .reads .now) (s .calls .now) (s .cargs .now) (s .target .now) (s .tbits .now) (s .troots .now) in
-    let c1 = rw (c .before .before .before .before .before .before .before .before .before .before .before .before .before .before .before .count-answer .ensures (s .source .now) (s .target .now) refl refl) at (sym (c .before .before .before .before .before .before .before .before .before .before .before .before .before .before .is-accepted .ensures) ∙ not-false _ (c .before .before .before .before .before .before .before .before .before .before .before .before .before .if1 .left)) in
-    let ok = sym (c .before .before .before .before .before .is-accepted2 .ensures) ∙ not-false _ (c .before .before .before .before .if2 .left) in
-    let g1 = rw (c .before .before .before .before .before .before .before .before .before .before .graphs .ensures .0) at ok in
-    (forms-formed L (s .ws0 .now) (s .ws1 .now) (s .cls .now) (s .ent .now) g1, (widths-front Target (length (s .tbits .now)) _ [] (s .target .now) _ _ (c .before .before .before .row-count .ensures) (c .before .before .before .before .before .before .before .before .before .before .graphs .ensures .1 .1 ok), (room-2 L (s .ws0 .now) (s .ws1 .now) (s .cls .now) (s .ent .now) c1, room-3 L (s .ws0 .now) (s .ws1 .now) (s .cls .now) (s .ent .now) c1)))
+    let at-graphs = c .before .before .before .before .before .before .before .before .before .before in
+    let at-else1 = at-graphs .before .before .before in
+    let at-start = start (at-else1 .before .before) in
+    let s = at-start .args in
+    let L = input at-start in
+    let c1 = counts-pass at-else1 in
+    let ok = forms-accepted (c .before .before .before .before) in
+    let g1 = rw (at-graphs .graphs .ensures .0) at ok in
+    (forms-formed L (s .ws0 .now) (s .ws1 .now) (s .cls .now) (s .ent .now) g1, (widths-front Target (length (s .tbits .now)) _ [] (s .target .now) _ _ (c .before .before .before .row-count .ensures) (at-graphs .graphs .ensures .1 .1 ok), (room-2 L (s .ws0 .now) (s .ws1 .now) (s .cls .now) (s .ent .now) c1, room-3 L (s .ws0 .now) (s .ws1 .now) (s .cls .now) (s .ent .now) c1)))
 
 is-accepted-requires-3 : tie.Need-is-accepted-requires-3
 is-accepted-requires-3 c κs = search needs
@@ -103,32 +146,49 @@ same-length-8 c = search needs
 
 returns-3 : tie.Need-returns-3
 returns-3 c =
-    let s = c .before .before .before .before .before .before .before .before .before .before .before .before .before .before .before .before .before .before .before .before .before .before .before .before .before .before .before .before .before .before .before .before .before .before .before .before .before .before .before .before .before .before .before .before .before .before .before .before .before .before .before .args in
-    let L = lowering (s .source .now) (s .ebits .now) (s .eside .now) (s .eroots .now) (s .map .now) (s .reads .now) (s .calls .now) (s .cargs .now) (s .target .now) (s .tbits .now) (s .troots .now) in
-    let c1 = rw (c .before .before .before .before .before .before .before .before .before .before .before .before .before .before .before .before .before .before .before .before .before .before .before .before .before .before .before .before .before .before .before .before .before .before .before .count-answer .ensures (s .source .now) (s .target .now) refl refl) at (sym (c .before .before .before .before .before .before .before .before .before .before .before .before .before .before .before .before .before .before .before .before .before .before .before .before .before .before .before .before .before .before .before .before .before .before .is-accepted .ensures) ∙ not-false _ (c .before .before .before .before .before .before .before .before .before .before .before .before .before .before .before .before .before .before .before .before .before .before .before .before .before .before .before .before .before .before .before .before .before .if1 .left)) in
-    let ok = sym (c .before .before .before .before .before .before .before .before .before .before .before .before .before .before .before .before .before .before .before .before .before .before .before .before .before .is-accepted2 .ensures) ∙ not-false _ (c .before .before .before .before .before .before .before .before .before .before .before .before .before .before .before .before .before .before .before .before .before .before .before .before .if2 .left) in
-    let g1 = rw (c .before .before .before .before .before .before .before .before .before .before .before .before .before .before .before .before .before .before .before .before .before .before .before .before .before .before .before .before .before .before .graphs .ensures .0) at ok in
-    let z = c .before .before .before .before .before .before .before .before .clear-all2 .ensures in
-    let k = c .before .before .before .before .before .before .before .before .before .before .before .before .before .before .before .before .before .before .before .before .before .before .before .before .before .before .before .before .before .before .graphs in
-    let l = c .before .before .before .before .before .before .before .before .before .before .before .before .before .before .before .before .before .before .before .lowered in
-    by-lists _ _ _ _ _ _ _ _ _ _ (zeros-long _ (length (s .ws0 .now)) _ (z .0) (k .kept .1 .1 .1 .1 .1 .0)) (zeros-long _ (length (s .ws1 .now)) _ (z .1 .0) (k .kept .1 .1 .1 .1 .1 .1 .0)) (zeros-long _ (length (s .cls .now)) _ (z .1 .1 .0) (l .kept .1 .1 .1 .1 .1 .1 .1 .1 .1 .1 .1 .1 .0)) (zeros-long _ (length (s .ent .now)) _ (z .1 .1 .1) (l .kept .1 .1 .1 .1 .1 .1 .1 .1 .1 .1 .1 .1 .1 .0)) (match-done L (s .ws0 .now) (s .ws1 .now) (s .cls .now) (s .ent .now) _ c1 g1 (l .ensures .0) (sym (c .before .before .before .before .before .before .before .before .before .before .before .before .before .before .is-accepted3 .ensures) ∙ not-true _ (c .before .before .before .before .before .before .before .before .before .before .before .before .before .if3 .taken)))
+    let at-clear-all2 = c .before .before .before .before .before .before .before .before in
+    let at-then3 = at-clear-all2 .before .before .before .before .before in
+    let at-is-accepted3 = at-then3 .before in
+    let at-lowered = at-is-accepted3 .before .before .before .before .before in
+    let at-else2 = at-lowered .before .before .before .before .before in
+    let at-graphs = at-else2 .before .before .before .before .before .before in
+    let at-else1 = at-graphs .before .before .before in
+    let at-start = start (at-else1 .before .before) in
+    let s = at-start .args in
+    let L = input at-start in
+    let c1 = counts-pass at-else1 in
+    let ok = forms-accepted at-else2 in
+    let g1 = rw (at-graphs .graphs .ensures .0) at ok in
+    let z = at-clear-all2 .clear-all2 .ensures in
+    let k = at-graphs .graphs in
+    let l = at-lowered .lowered in
+    by-lists _ _ _ _ _ _ _ _ _ _ (zeros-long _ (length (s .ws0 .now)) _ (z .0) (k .kept .1 .1 .1 .1 .1 .0)) (zeros-long _ (length (s .ws1 .now)) _ (z .1 .0) (k .kept .1 .1 .1 .1 .1 .1 .0)) (zeros-long _ (length (s .cls .now)) _ (z .1 .1 .0) (l .kept .1 .1 .1 .1 .1 .1 .1 .1 .1 .1 .1 .1 .0)) (zeros-long _ (length (s .ent .now)) _ (z .1 .1 .1) (l .kept .1 .1 .1 .1 .1 .1 .1 .1 .1 .1 .1 .1 .1 .0)) (match-done L (s .ws0 .now) (s .ws1 .now) (s .cls .now) (s .ent .now) _ c1 g1 (l .ensures .0) (sym (at-is-accepted3 .is-accepted3 .ensures) ∙ not-true _ (at-then3 .if3 .taken)))
 
 row-count-requires-2 : tie.Need-row-count-requires-2
 row-count-requires-2 c κs = search needs
 
 clear-from-requires : tie.Need-clear-from-requires
 clear-from-requires c κs =
-    let s = c .before .before .before .before .before .before .before .before .before .before .before .before .before .before .before .before .before .before .before .before .before .before .before .before .before .before .before .before .before .before .before .before .before .before .before .before .before .before .before .before .args in
-    let L = lowering (s .source .now) (s .ebits .now) (s .eside .now) (s .eroots .now) (s .map .now) (s .reads .now) (s .calls .now) (s .cargs .now) (s .target .now) (s .tbits .now) (s .troots .now) in
-    let c1 = rw (c .before .before .before .before .before .before .before .before .before .before .before .before .before .before .before .before .before .before .before .before .before .before .before .before .count-answer .ensures (s .source .now) (s .target .now) refl refl) at (sym (c .before .before .before .before .before .before .before .before .before .before .before .before .before .before .before .before .before .before .before .before .before .before .before .is-accepted .ensures) ∙ not-false _ (c .before .before .before .before .before .before .before .before .before .before .before .before .before .before .before .before .before .before .before .before .before .before .if1 .left)) in
-    rw (c .row-count2 .ensures, c .before .before .before .before .before .before .before .before .before .before .before .before .before .before .before .before .before .before .before .graphs .kept .1 .1 .1 .1 .1 .0) (room-0 L (s .ws0 .now) (s .ws1 .now) (s .cls .now) (s .ent .now) c1)
+    let at-lowered = c .before .before .before .before .before .before .before .before in
+    let at-graphs = at-lowered .before .before .before .before .before .before .before .before .before .before .before in
+    let at-else1 = at-graphs .before .before .before in
+    let at-start = start (at-else1 .before .before) in
+    let s = at-start .args in
+    let L = input at-start in
+    let c1 = counts-pass at-else1 in
+    rw (c .row-count2 .ensures, at-graphs .graphs .kept .1 .1 .1 .1 .1 .0) (room-0 L (s .ws0 .now) (s .ws1 .now) (s .cls .now) (s .ent .now) c1)
 
 clear-from-requires-2 : tie.Need-clear-from-requires-2
 clear-from-requires-2 c κs =
-    let s = c .before .before .before .before .before .before .before .before .before .before .before .before .before .before .before .before .before .before .before .before .before .before .before .before .before .before .before .before .before .before .before .before .before .before .before .before .before .before .before .before .before .before .before .before .args in
-    let L = lowering (s .source .now) (s .ebits .now) (s .eside .now) (s .eroots .now) (s .map .now) (s .reads .now) (s .calls .now) (s .cargs .now) (s .target .now) (s .tbits .now) (s .troots .now) in
-    let c1 = rw (c .before .before .before .before .before .before .before .before .before .before .before .before .before .before .before .before .before .before .before .before .before .before .before .before .before .before .before .before .count-answer .ensures (s .source .now) (s .target .now) refl refl) at (sym (c .before .before .before .before .before .before .before .before .before .before .before .before .before .before .before .before .before .before .before .before .before .before .before .before .before .before .before .is-accepted .ensures) ∙ not-false _ (c .before .before .before .before .before .before .before .before .before .before .before .before .before .before .before .before .before .before .before .before .before .before .before .before .before .before .if1 .left)) in
-    rw (c .before .before .before .before .before .before .before .before .before .before .before .before .before .before .before .before .row-count .ensures, c .before .before .before .before .before .before .before .before .before .before .before .before .before .before .before .before .before .before .before .before .before .before .before .graphs .kept .1 .1 .1 .1 .1 .1 .0) (room-1 L (s .ws0 .now) (s .ws1 .now) (s .cls .now) (s .ent .now) c1)
+    let at-cls2 = c .before .before .before .before .before .before .before .before .before .before .before in
+    let at-row-count = at-cls2 .before .before .before .before .before in
+    let at-graphs = at-row-count .before .before .before .before .before .before .before in
+    let at-else1 = at-graphs .before .before .before in
+    let at-start = start (at-else1 .before .before) in
+    let s = at-start .args in
+    let L = input at-start in
+    let c1 = counts-pass at-else1 in
+    rw (at-row-count .row-count .ensures, at-graphs .graphs .kept .1 .1 .1 .1 .1 .1 .0) (room-1 L (s .ws0 .now) (s .ws1 .now) (s .cls .now) (s .ent .now) c1)
 
 same-length-9 : tie.Need-same-length-9
 same-length-9 c = search needs
@@ -144,15 +204,25 @@ same-length-12 c = search needs
 
 returns-4 : tie.Need-returns-4
 returns-4 c =
-    let s = c .before .before .before .before .before .before .before .before .before .before .before .before .before .before .before .before .before .before .before .before .before .before .before .before .before .before .before .before .before .before .before .before .before .before .before .before .before .before .before .before .before .before .before .before .before .before .before .args in
-    let L = lowering (s .source .now) (s .ebits .now) (s .eside .now) (s .eroots .now) (s .map .now) (s .reads .now) (s .calls .now) (s .cargs .now) (s .target .now) (s .tbits .now) (s .troots .now) in
-    let c1 = rw (c .before .before .before .before .before .before .before .before .before .before .before .before .before .before .before .before .before .before .before .before .before .before .before .before .before .before .before .before .before .before .before .count-answer .ensures (s .source .now) (s .target .now) refl refl) at (sym (c .before .before .before .before .before .before .before .before .before .before .before .before .before .before .before .before .before .before .before .before .before .before .before .before .before .before .before .before .before .before .is-accepted .ensures) ∙ not-false _ (c .before .before .before .before .before .before .before .before .before .before .before .before .before .before .before .before .before .before .before .before .before .before .before .before .before .before .before .before .before .if1 .left)) in
-    let ok = sym (c .before .before .before .before .before .before .before .before .before .before .before .before .before .before .before .before .before .before .before .before .before .is-accepted2 .ensures) ∙ not-false _ (c .before .before .before .before .before .before .before .before .before .before .before .before .before .before .before .before .before .before .before .before .if2 .left) in
-    let g1 = rw (c .before .before .before .before .before .before .before .before .before .before .before .before .before .before .before .before .before .before .before .before .before .before .before .before .before .before .graphs .ensures .0) at ok in
-    let k = c .before .before .before .before .before .before .before .before .before .before .before .before .before .before .before .before .before .before .before .before .before .before .before .before .before .before .graphs in
-    let l = c .before .before .before .before .before .before .before .before .before .before .before .before .before .before .before .lowered in
-    let m = sym (c .before .before .before .before .before .before .before .before .before .before .is-accepted3 .ensures) ∙ not-false _ (c .before .before .before .before .before .before .before .before .before .if3 .left) in
-    by-lists _ _ _ _ _ _ _ _ _ _ (widths-cleared Source (length (s .ebits .now)) _ (length (s .ws0 .now)) (s .eside .now) (s .source .now) _ _ _ (c .before .before .before .before .before .before .before .row-count2 .ensures) (k .ensures .1 .0 ok) (k .kept .1 .1 .1 .1 .1 .0) (c .before .before .before .before .before .before .clear-from .ensures)) (widths-cleared Target (length (s .tbits .now)) _ (length (s .ws1 .now)) [] (s .target .now) _ _ _ (c .before .before .before .before .before .before .before .before .before .before .before .before .before .before .before .before .before .before .before .row-count .ensures) (k .ensures .1 .1 ok) (k .kept .1 .1 .1 .1 .1 .1 .0) (c .before .before .clear-from2 .ensures)) (l .ensures .1 .0 m) (l .ensures .1 .1 m) (accept-done L (s .ws0 .now) (s .ws1 .now) (s .cls .now) (s .ent .now) _ c1 g1 (l .ensures .0) m)
+    let at-clear-from = c .before .before .before .before .before .before in
+    let at-row-count2 = at-clear-from .before in
+    let at-else3 = at-row-count2 .before .before in
+    let at-is-accepted3 = at-else3 .before in
+    let at-lowered = at-is-accepted3 .before .before .before .before .before in
+    let at-row-count = at-lowered .before .before .before .before in
+    let at-else2 = at-row-count .before in
+    let at-graphs = at-else2 .before .before .before .before .before .before in
+    let at-else1 = at-graphs .before .before .before in
+    let at-start = start (at-else1 .before .before) in
+    let s = at-start .args in
+    let L = input at-start in
+    let c1 = counts-pass at-else1 in
+    let ok = forms-accepted at-else2 in
+    let g1 = rw (at-graphs .graphs .ensures .0) at ok in
+    let k = at-graphs .graphs in
+    let l = at-lowered .lowered in
+    let m = sym (at-is-accepted3 .is-accepted3 .ensures) ∙ not-false _ (at-else3 .if3 .left) in
+    by-lists _ _ _ _ _ _ _ _ _ _ (widths-cleared Source (length (s .ebits .now)) _ (length (s .ws0 .now)) (s .eside .now) (s .source .now) _ _ _ (at-row-count2 .row-count2 .ensures) (k .ensures .1 .0 ok) (k .kept .1 .1 .1 .1 .1 .0) (at-clear-from .clear-from .ensures)) (widths-cleared Target (length (s .tbits .now)) _ (length (s .ws1 .now)) [] (s .target .now) _ _ _ (at-row-count .row-count .ensures) (k .ensures .1 .1 ok) (k .kept .1 .1 .1 .1 .1 .1 .0) (c .before .before .clear-from2 .ensures)) (l .ensures .1 .0 m) (l .ensures .1 .1 m) (accept-done L (s .ws0 .now) (s .ws1 .now) (s .cls .now) (s .ent .now) _ c1 g1 (l .ensures .0) m)
 
 pub check-spec : {M : Type 1} → statement M
 check-spec =

@@ -110,18 +110,24 @@ shared-slice-read-call-stands c = omega (arith, entry (c .before .before .before
 
 call-stands-requires : tie.Need-call-stands-requires Inv-loop μ-loop
 call-stands-requires c κs =
-    let s = c .before .before .before .before .before .before .before .before .before .before .before .before .before .before .before .args in
+    let at-call-count = c .before .before .before .before .before .before .before .before .before .before in
+    let at-start = at-call-count .before .before .before .before .before in
+    let s = at-start .args in
     let e = all-true _ (sym (c .before .before .before .call-needs .ensures) ∙ c .before .before .if1 .taken) .1 .0 in
-    (c .before .before .before .before .before .before .before .before .before .before .before .before .before .before .before .pre .0 _ (c .before .before .before .before .before .before .before .before .before .before .before .before .before .before .before .pre .1) .1, rw (eqb-true (argCount (s .calls .now) (s .k)) (argCount (s .calls .now) (c .before .before .before .before .before .loop .l)) e) (entry (c .before .before .before .before) .1))
+    (at-start .pre .0 _ (at-start .pre .1) .1, rw (eqb-true (argCount (s .calls .now) (s .k)) (argCount (s .calls .now) (c .before .before .before .before .before .loop .l)) e) (entry (c .before .before .before .before) .1))
 
 returns : tie.Need-returns Inv-loop μ-loop
 returns c =
-    let s = c .before .before .before .before .before .before .before .before .before .before .before .before .before .before .before .before .before .args in
-    let l = c .before .before .before .before .before .before .before .loop in
+    let in-loop = c .before .before .before .before .before .before in
+    let at-loop = in-loop .before in
+    let at-call-count = at-loop .before .before .before .before .before in
+    let at-start = at-call-count .before .before .before .before .before in
+    let s = at-start .args in
+    let l = at-loop .loop in
     sym
     (l .inv .1
     ∙ row-stop (s .troots .now) (callRoot (s .calls .now) (s .cargs .now) (s .target .now)) (sameFunction (s .calls .now)) (callCount (s .calls .now)) (s .k) (l .idx) (l .l)
-    (rw (c .before .before .before .before .before .before .before .before .before .before .before .before .call-count .ensures) at (c .before .before .before .before .before .before .loop-test .taken)) (sym (needs-is (c .before .before .before .before .before)) ∙ c .before .before .before .before .if1 .taken) (sym (stands-is (c .before)) ∙ not-true _ (c .if2 .taken)))
+    (rw (at-call-count .call-count .ensures) at (in-loop .loop-test .taken)) (sym (needs-is (c .before .before .before .before .before)) ∙ c .before .before .before .before .if1 .taken) (sym (stands-is (c .before)) ∙ not-true _ (c .if2 .taken)))
 
 add-idx : tie.Need-add-idx Inv-loop μ-loop
 add-idx c = omega (arith, root-inside _ _ _ _ (sym (stands-is (c .before)) ∙ not-false _ (c .if2 .left)))
@@ -135,9 +141,11 @@ loop-less c = omega arith
 loop-again : tie.Need-loop-again Inv-loop μ-loop
 unfolding rootAt
 loop-again c =
-    let s = c .before .before .before .before .before .before .before .before .before .before .before .before .before .args in
+    let at-call-count = c .before .before .before .before .before .before .before .before in
+    let at-start = at-call-count .before .before .before .before .before in
+    let s = at-start .args in
     let l = c .before .before .before .loop in
-    let h = rw (c .before .before .before .before .before .before .before .before .call-count .ensures) at (c .before .before .loop-test .taken) in (
+    let h = rw (at-call-count .call-count .ensures) at (c .before .before .loop-test .taken) in (
       omega arith,
       l .inv .1 ∙ ⊎-elim
           (λ w. rw (w .5) (row-on (s .troots .now) (callRoot (s .calls .now) (s .cargs .now) (s .target .now)) (sameFunction (s .calls .now)) (callCount (s .calls .now)) (s .k) (l .idx) (l .l) h (sym (needs-is (c .before)) ∙ w .0 .taken) (sym (w .3 .ensures) ∙ not-false _ (w .4 .left))))

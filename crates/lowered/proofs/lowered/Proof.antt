@@ -7,6 +7,10 @@ use borrow.Author.Needs.{needs}
 use Rattle.lowered.proofs.lowered.Statement.{statement}
 use Rattle.lowered.proofs.lowered.Tie as tie
 
+-- the start, from the first place past what is known of the lists
+abbrev start : tie.After-clear-arg → tie.Start
+start c = c .before .before .before .before .before .before .before .before .before .before .before .before .before .before .before
+
 clear-requires : tie.Need-clear-requires
 clear-requires c κs = search needs
 
@@ -21,22 +25,30 @@ slice-relend-prefix-matches c = search needs
 
 slice-aggregate-matches : tie.Need-slice-aggregate-matches
 slice-aggregate-matches c =
-    let p = c .before .before .before .before .before .before .before .before .before .before .before .before .before .before .before .before .before .before .before .before .before .before .before .before .pre in
-    sym (length-take-le _ _ (rw (c .before .before .before .before .before .before .before .before .clear .ensures, c .before .row-count .ensures, length-replicate) (p .1 .1 .0)))
+    let at-clear = c .before .before .before .before .before .before .before .before in
+    let at-clear-arg = at-clear .before in
+    let at-start = start at-clear-arg in
+    let p = at-start .pre in
+    sym (length-take-le _ _ (rw (at-clear .clear .ensures, c .before .row-count .ensures, length-replicate) (p .1 .1 .0)))
 
 slice-relend-prefix-matches-2 : tie.Need-slice-relend-prefix-matches-2
 slice-relend-prefix-matches-2 c = search needs
 
 slice-aggregate-matches-2 : tie.Need-slice-aggregate-matches-2
 slice-aggregate-matches-2 c =
-    let p = c .before .before .before .before .before .before .before .before .before .before .before .before .before .before .before .before .before .before .before .before .before .before .before .before .before .pre in
+    let at-clear-arg = c .before .before .before .before .before .before .before .before .before .before in
+    let at-start = start at-clear-arg in
+    let p = at-start .pre in
     sym (length-take-le _ _ (rw (c .before .before .before .before .before .clear2 .ensures, c .before .before .row-count .ensures, length-replicate) (p .1 .1 .1)))
 
 matches-requires : tie.Need-matches-requires
 matches-requires c κs =
-    let p = c .before .before .before .before .before .before .before .before .before .before .before .before .before .before .before .before .before .before .before .before .before .before .before .before .before .pre in
+    let at-clear = c .before .before .before .before .before .before .before .before .before in
+    let at-clear-arg = at-clear .before in
+    let at-start = start at-clear-arg in
+    let p = at-start .pre in
     let n = c .before .before .row-count .ensures in
-    (p .0, (p .1 .0, (rw (c .before .before .before .before .before .before .before .before .before .clear .ensures, n) (zeros-front _ _ (p .1 .1 .0)), rw (c .before .before .before .before .before .clear2 .ensures, n) (zeros-front _ _ (p .1 .1 .1)))))
+    (p .0, (p .1 .0, (rw (at-clear .clear .ensures, n) (zeros-front _ _ (p .1 .1 .0)), rw (c .before .before .before .before .before .clear2 .ensures, n) (zeros-front _ _ (p .1 .1 .1)))))
 
 same-length : tie.Need-same-length
 same-length c = search needs
@@ -46,10 +58,15 @@ same-length-2 c = search needs
 
 returns : tie.Need-returns
 returns c =
-    let p = c .before .before .before .before .before .before .before .before .before .before .before .before .before .before .before .before .before .before .before .before .before .before .before .before .before .before .before .before .before .before .pre in
-    let n = c .before .before .before .before .before .before .before .row-count .ensures in
+    let at-row-count = c .before .before .before .before .before .before .before in
+    let at-clear2 = at-row-count .before .before .before in
+    let at-clear = at-clear2 .before .before .before .before in
+    let at-clear-arg = at-clear .before in
+    let at-start = start at-clear-arg in
+    let p = at-start .pre in
+    let n = at-row-count .row-count .ensures in
     let m = c .before .before .before .before .matches .ensures in
-    (m .0, (λ h. rw (m .1 .0 h, c .before .before .before .before .before .before .before .before .before .before .before .before .before .before .clear .ensures, n, zeros-back _ _ (p .1 .1 .0)), λ h. rw (m .1 .1 h, c .before .before .before .before .before .before .before .before .before .before .clear2 .ensures, n, zeros-back _ _ (p .1 .1 .1))))
+    (m .0, (λ h. rw (m .1 .0 h, at-clear .clear .ensures, n, zeros-back _ _ (p .1 .1 .0)), λ h. rw (m .1 .1 h, at-clear2 .clear2 .ensures, n, zeros-back _ _ (p .1 .1 .1))))
 
 pub lowered-spec : {M : Type 1} → statement M
 lowered-spec =

@@ -7,26 +7,37 @@ use borrow.Author.Tests.{not-true, not-false}
 use Rattle.images.proofs.Constants.{bits-within}
 use Rattle.lists.proofs.Choice.{no-way}
 use Rattle.rows.specs.declared.Graph.the-variants.{Target}
-use Rattle.lowering.specs.Check.{lowering}
+use Rattle.lowering.specs.Check.{Lowering, lowering}
 use Rattle.lowered.proofs.MatchLaws.{map-3, tables-done, rows-done, dead-done, roots-done, passed-tables, reads-inside, calls-inside}
 use Rattle.wf.specs.Widths.{widths}
 use borrow.Author.Needs.{needs}
 use Rattle.lowered.proofs.matches.Statement.{statement}
 use Rattle.lowered.proofs.matches.Tie as tie
 
+-- the start, from the first place past what is known of the lists
+abbrev start : tie.After-row-count → tie.Start
+start c = c .before .before .before .before .before .before .before .before .before .before .before .before .before .before .before
+
+abbrev input : tie.Start → Lowering
+input c =
+    let s = c .args in
+    lowering (s .source .now) (s .ebits .now) (s .eside .now) (s .eroots .now) (s .map .now) (s .reads .now) (s .calls .now) (s .cargs .now) (s .target .now)
+    (s .tbits .now) (s .troots .now)
+
 row-count-requires : tie.Need-row-count-requires
 row-count-requires c κs = search needs
 
 returns : tie.Need-returns
 returns c =
-    let s = c .before .before .before .before .before .before .before .before .before .before .before .before .before .before .before .before .args in
-    let p = c .before .before .before .before .before .before .before .before .before .before .before .before .before .before .before .before .pre in
-    let L = lowering (s .source .now) (s .ebits .now) (s .eside .now) (s .eroots .now) (s .map .now) (s .reads .now) (s .calls .now) (s .cargs .now) (s .target .now) (s .tbits .now) (s .troots .now) in
-    (rw (c .before .row-count .ensures) (sym (map-3 L (λ q. c .if1 .taken (q ∙ sym (c .before .row-count .ensures))))), (λ h. no-way (sym h), λ h. no-way (sym h)))
+    let at-row-count = c .before in
+    let L = input (start at-row-count) in
+    (rw (at-row-count .row-count .ensures) (sym (map-3 L (λ q. c .if1 .taken (q ∙ sym (at-row-count .row-count .ensures))))), (λ h. no-way (sym h), λ h. no-way (sym h)))
 
 entries-requires : tie.Need-entries-requires
 entries-requires c κs =
-    let p = c .before .before .before .before .before .before .before .before .before .before .before .before .before .before .before .before .before .before .pre in
+    let at-row-count = c .before .before .before in
+    let at-start = start at-row-count in
+    let p = at-start .pre in
     (ap length (p .1 .1 .0) ∙ length-replicate {A = ℕ} _ 0, ap length (p .1 .1 .1) ∙ length-replicate {A = ℕ} _ 0)
 
 is-accepted-requires : tie.Need-is-accepted-requires
@@ -40,15 +51,21 @@ same-length-2 c = search needs
 
 returns-2 : tie.Need-returns-2
 returns-2 c =
-    let s = c .before .before .before .before .before .before .before .before .before .before .before .before .before .before .before .before .before .before .before .before .before .before .before .before .before .args in
-    let p = c .before .before .before .before .before .before .before .before .before .before .before .before .before .before .before .before .before .before .before .before .before .before .before .before .before .pre in
-    let L = lowering (s .source .now) (s .ebits .now) (s .eside .now) (s .eroots .now) (s .map .now) (s .reads .now) (s .calls .now) (s .cargs .now) (s .target .now) (s .tbits .now) (s .troots .now) in
-    tables-done L _ _ _ (p .1 .0) (p .1 .1 .0) (p .1 .1 .1) _ _ _ (c .before .before .before .before .before .before .entries .ensures .0) (c .before .before .before .before .before .before .entries .ensures .1 .0) (c .before .before .before .before .before .before .entries .ensures .1 .1) (c .before .before .before .before .before .before .before .before .before .if1 .left ∙ c .before .before .before .before .before .before .before .before .before .before .row-count .ensures) (sym (c .before .is-accepted .ensures) ∙ not-true _ (c .if2 .taken))
+    let at-entries = c .before .before .before .before .before .before in
+    let at-else1 = at-entries .before .before .before in
+    let at-row-count = at-else1 .before in
+    let at-start = start at-row-count in
+    let p = at-start .pre in
+    let L = input at-start in
+    tables-done L _ _ _ (p .1 .0) (p .1 .1 .0) (p .1 .1 .1) _ _ _ (at-entries .entries .ensures .0) (at-entries .entries .ensures .1 .0) (at-entries .entries .ensures .1 .1) (at-else1 .if1 .left ∙ at-row-count .row-count .ensures) (sym (c .before .is-accepted .ensures) ∙ not-true _ (c .if2 .taken))
 
 ext-rows-requires : tie.Need-ext-rows-requires
 ext-rows-requires c κs =
-    let p = c .before .before .before .before .before .before .before .before .before .before .before .before .before .before .before .before .before .before .before .before .before .before .before .before .before .before .before .pre in
-    let k = c .before .before .before .before .before .before .before .before .entries .kept in
+    let at-entries = c .before .before .before .before .before .before .before .before in
+    let at-row-count = at-entries .before .before .before .before in
+    let at-start = start at-row-count in
+    let p = at-start .pre in
+    let k = at-entries .entries .kept in
     (p .0, (k .1 .1 .1 .1 .1 .1 .0 ∙ ap length (p .1 .1 .1) ∙ length-replicate {A = ℕ} _ 0, k .1 .1 .1 .1 .1 .0 ∙ ap length (p .1 .1 .0) ∙ length-replicate {A = ℕ} _ 0))
 
 is-accepted-requires-2 : tie.Need-is-accepted-requires-2
@@ -62,10 +79,15 @@ same-length-4 c = search needs
 
 returns-3 : tie.Need-returns-3
 returns-3 c =
-    let s = c .before .before .before .before .before .before .before .before .before .before .before .before .before .before .before .before .before .before .before .before .before .before .before .before .before .before .before .before .before .before .before .before .args in
-    let p = c .before .before .before .before .before .before .before .before .before .before .before .before .before .before .before .before .before .before .before .before .before .before .before .before .before .before .before .before .before .before .before .before .pre in
-    let L = lowering (s .source .now) (s .ebits .now) (s .eside .now) (s .eroots .now) (s .map .now) (s .reads .now) (s .calls .now) (s .cargs .now) (s .target .now) (s .tbits .now) (s .troots .now) in
-    rows-done L _ _ _ (p .1 .0) (p .1 .1 .0) (p .1 .1 .1) _ _ _ (c .before .before .before .before .before .before .before .before .before .before .before .before .before .entries .ensures .0) (c .before .before .before .before .before .before .before .before .before .before .before .before .before .entries .ensures .1 .0) (c .before .before .before .before .before .before .before .before .before .before .before .before .before .entries .ensures .1 .1) (c .before .before .before .before .before .before .before .before .before .before .before .before .before .before .before .before .if1 .left ∙ c .before .before .before .before .before .before .before .before .before .before .before .before .before .before .before .before .before .row-count .ensures) (sym (c .before .before .before .before .before .before .before .before .is-accepted .ensures) ∙ not-false _ (c .before .before .before .before .before .before .before .if2 .left)) _ _ (c .before .before .before .before .ext-rows .ensures .0) (c .before .before .before .before .ext-rows .ensures .1) (sym (c .before .is-accepted2 .ensures) ∙ not-true _ (c .if3 .taken))
+    let at-else2 = c .before .before .before .before .before .before .before in
+    let at-is-accepted = at-else2 .before in
+    let at-entries = at-is-accepted .before .before .before .before .before in
+    let at-else1 = at-entries .before .before .before in
+    let at-row-count = at-else1 .before in
+    let at-start = start at-row-count in
+    let p = at-start .pre in
+    let L = input at-start in
+    rows-done L _ _ _ (p .1 .0) (p .1 .1 .0) (p .1 .1 .1) _ _ _ (at-entries .entries .ensures .0) (at-entries .entries .ensures .1 .0) (at-entries .entries .ensures .1 .1) (at-else1 .if1 .left ∙ at-row-count .row-count .ensures) (sym (at-is-accepted .is-accepted .ensures) ∙ not-false _ (at-else2 .if2 .left)) _ _ (c .before .before .before .before .ext-rows .ensures .0) (c .before .before .before .before .ext-rows .ensures .1) (sym (c .before .is-accepted2 .ensures) ∙ not-true _ (c .if3 .taken))
 
 dead-entry-requires : tie.Need-dead-entry-requires
 dead-entry-requires c κs = search needs
@@ -78,17 +100,29 @@ same-length-6 c = search needs
 
 returns-4 : tie.Need-returns-4
 returns-4 c =
-    let s = c .before .before .before .before .before .before .before .before .before .before .before .before .before .before .before .before .before .before .before .before .before .before .before .before .before .before .before .before .before .before .before .before .before .before .before .args in
-    let p = c .before .before .before .before .before .before .before .before .before .before .before .before .before .before .before .before .before .before .before .before .before .before .before .before .before .before .before .before .before .before .before .before .before .before .before .pre in
-    let L = lowering (s .source .now) (s .ebits .now) (s .eside .now) (s .eroots .now) (s .map .now) (s .reads .now) (s .calls .now) (s .cargs .now) (s .target .now) (s .tbits .now) (s .troots .now) in
-    dead-done L _ _ _ (p .1 .0) (p .1 .1 .0) (p .1 .1 .1) _ _ _ (c .before .before .before .before .before .before .before .before .before .before .before .before .before .before .before .before .entries .ensures .0) (c .before .before .before .before .before .before .before .before .before .before .before .before .before .before .before .before .entries .ensures .1 .0) (c .before .before .before .before .before .before .before .before .before .before .before .before .before .before .before .before .entries .ensures .1 .1) (c .before .before .before .before .before .before .before .before .before .before .before .before .before .before .before .before .before .before .before .if1 .left ∙ c .before .before .before .before .before .before .before .before .before .before .before .before .before .before .before .before .before .before .before .before .row-count .ensures) (sym (c .before .before .before .before .before .before .before .before .before .before .before .is-accepted .ensures) ∙ not-false _ (c .before .before .before .before .before .before .before .before .before .before .if2 .left)) _ _ (c .before .before .before .before .before .before .before .ext-rows .ensures .0) (c .before .before .before .before .before .before .before .ext-rows .ensures .1) (sym (c .before .before .before .before .is-accepted2 .ensures) ∙ not-false _ (c .before .before .before .if3 .left)) _ (c .before .before .before .before .before .before .before .ext-rows .kept .1 .1 .1 .1 .1 .1 .1 .1 .1 .1 .0 ∙ c .before .before .before .before .before .before .before .before .before .before .before .before .before .before .before .before .entries .kept .1 .1 .1 .1 .1 .0 ∙ ap length (p .1 .1 .0) ∙ length-replicate {A = ℕ} _ 0) (c .before .dead-entry .ensures) (c .if4 .taken)
+    let at-ext-rows = c .before .before .before .before .before .before .before in
+    let at-else2 = at-ext-rows .before .before .before in
+    let at-is-accepted = at-else2 .before in
+    let at-entries = at-is-accepted .before .before .before .before .before in
+    let at-else1 = at-entries .before .before .before in
+    let at-row-count = at-else1 .before in
+    let at-start = start at-row-count in
+    let p = at-start .pre in
+    let L = input at-start in
+    dead-done L _ _ _ (p .1 .0) (p .1 .1 .0) (p .1 .1 .1) _ _ _ (at-entries .entries .ensures .0) (at-entries .entries .ensures .1 .0) (at-entries .entries .ensures .1 .1) (at-else1 .if1 .left ∙ at-row-count .row-count .ensures) (sym (at-is-accepted .is-accepted .ensures) ∙ not-false _ (at-else2 .if2 .left)) _ _ (at-ext-rows .ext-rows .ensures .0) (at-ext-rows .ext-rows .ensures .1) (sym (c .before .before .before .before .is-accepted2 .ensures) ∙ not-false _ (c .before .before .before .if3 .left)) _ (at-ext-rows .ext-rows .kept .1 .1 .1 .1 .1 .1 .1 .1 .1 .1 .0 ∙ at-entries .entries .kept .1 .1 .1 .1 .1 .0 ∙ ap length (p .1 .1 .0) ∙ length-replicate {A = ℕ} _ 0) (c .before .dead-entry .ensures) (c .if4 .taken)
 
 roots-requires : tie.Need-roots-requires
 roots-requires c κs =
-    let s = c .before .before .before .before .before .before .before .before .before .before .before .before .before .before .before .before .before .before .before .before .before .before .before .before .before .before .before .before .before .before .before .before .before .before .before .args in
-    let p = c .before .before .before .before .before .before .before .before .before .before .before .before .before .before .before .before .before .before .before .before .before .before .before .before .before .before .before .before .before .before .before .before .before .before .before .pre in
-    let L = lowering (s .source .now) (s .ebits .now) (s .eside .now) (s .eroots .now) (s .map .now) (s .reads .now) (s .calls .now) (s .cargs .now) (s .target .now) (s .tbits .now) (s .troots .now) in
-    let b = passed-tables L _ _ _ (p .1 .0) (p .1 .1 .0) (p .1 .1 .1) _ _ _ (c .before .before .before .before .before .before .before .before .before .before .before .before .before .before .before .before .entries .ensures .0) (c .before .before .before .before .before .before .before .before .before .before .before .before .before .before .before .before .entries .ensures .1 .0) (c .before .before .before .before .before .before .before .before .before .before .before .before .before .before .before .before .entries .ensures .1 .1) (c .before .before .before .before .before .before .before .before .before .before .before .before .before .before .before .before .before .before .before .if1 .left ∙ c .before .before .before .before .before .before .before .before .before .before .before .before .before .before .before .before .before .before .before .before .row-count .ensures) (sym (c .before .before .before .before .before .before .before .before .before .before .before .is-accepted .ensures) ∙ not-false _ (c .before .before .before .before .before .before .before .before .before .before .if2 .left)) in
+    let at-else2 = c .before .before .before .before .before .before .before .before .before .before in
+    let at-is-accepted = at-else2 .before in
+    let at-entries = at-is-accepted .before .before .before .before .before in
+    let at-else1 = at-entries .before .before .before in
+    let at-row-count = at-else1 .before in
+    let at-start = start at-row-count in
+    let s = at-start .args in
+    let p = at-start .pre in
+    let L = input at-start in
+    let b = passed-tables L _ _ _ (p .1 .0) (p .1 .1 .0) (p .1 .1 .1) _ _ _ (at-entries .entries .ensures .0) (at-entries .entries .ensures .1 .0) (at-entries .entries .ensures .1 .1) (at-else1 .if1 .left ∙ at-row-count .row-count .ensures) (sym (at-is-accepted .is-accepted .ensures) ∙ not-false _ (at-else2 .if2 .left)) in
     (reads-inside L b, (calls-inside L b, bits-within Target (s .tbits .now) [] (s .target .now) (widths Target (length (s .tbits .now)) [] (s .target .now)) (p .0 .target-formed)))
 
 same-length-7 : tie.Need-same-length-7
@@ -99,10 +133,16 @@ same-length-8 c = search needs
 
 returns-5 : tie.Need-returns-5
 returns-5 c =
-    let s = c .before .before .before .before .before .before .before .before .before .before .before .before .before .before .before .before .before .before .before .before .before .before .before .before .before .before .before .before .before .before .before .before .before .before .before .before .args in
-    let p = c .before .before .before .before .before .before .before .before .before .before .before .before .before .before .before .before .before .before .before .before .before .before .before .before .before .before .before .before .before .before .before .before .before .before .before .before .pre in
-    let L = lowering (s .source .now) (s .ebits .now) (s .eside .now) (s .eroots .now) (s .map .now) (s .reads .now) (s .calls .now) (s .cargs .now) (s .target .now) (s .tbits .now) (s .troots .now) in
-    roots-done L _ _ _ (p .1 .0) (p .1 .1 .0) (p .1 .1 .1) _ _ _ (c .before .before .before .before .before .before .before .before .before .before .before .before .before .before .before .before .before .entries .ensures .0) (c .before .before .before .before .before .before .before .before .before .before .before .before .before .before .before .before .before .entries .ensures .1 .0) (c .before .before .before .before .before .before .before .before .before .before .before .before .before .before .before .before .before .entries .ensures .1 .1) (c .before .before .before .before .before .before .before .before .before .before .before .before .before .before .before .before .before .before .before .before .if1 .left ∙ c .before .before .before .before .before .before .before .before .before .before .before .before .before .before .before .before .before .before .before .before .before .row-count .ensures) (sym (c .before .before .before .before .before .before .before .before .before .before .before .before .is-accepted .ensures) ∙ not-false _ (c .before .before .before .before .before .before .before .before .before .before .before .if2 .left)) _ _ (c .before .before .before .before .before .before .before .before .ext-rows .ensures .0) (c .before .before .before .before .before .before .before .before .ext-rows .ensures .1) (sym (c .before .before .before .before .before .is-accepted2 .ensures) ∙ not-false _ (c .before .before .before .before .if3 .left)) _ (c .before .before .before .before .before .before .before .before .ext-rows .kept .1 .1 .1 .1 .1 .1 .1 .1 .1 .1 .0 ∙ c .before .before .before .before .before .before .before .before .before .before .before .before .before .before .before .before .before .entries .kept .1 .1 .1 .1 .1 .0 ∙ ap length (p .1 .1 .0) ∙ length-replicate {A = ℕ} _ 0) (c .before .before .dead-entry .ensures) _ (c .before .if4 .left) (c .roots .ensures)
+    let at-ext-rows = c .before .before .before .before .before .before .before .before in
+    let at-else2 = at-ext-rows .before .before .before in
+    let at-is-accepted = at-else2 .before in
+    let at-entries = at-is-accepted .before .before .before .before .before in
+    let at-else1 = at-entries .before .before .before in
+    let at-row-count = at-else1 .before in
+    let at-start = start at-row-count in
+    let p = at-start .pre in
+    let L = input at-start in
+    roots-done L _ _ _ (p .1 .0) (p .1 .1 .0) (p .1 .1 .1) _ _ _ (at-entries .entries .ensures .0) (at-entries .entries .ensures .1 .0) (at-entries .entries .ensures .1 .1) (at-else1 .if1 .left ∙ at-row-count .row-count .ensures) (sym (at-is-accepted .is-accepted .ensures) ∙ not-false _ (at-else2 .if2 .left)) _ _ (at-ext-rows .ext-rows .ensures .0) (at-ext-rows .ext-rows .ensures .1) (sym (c .before .before .before .before .before .is-accepted2 .ensures) ∙ not-false _ (c .before .before .before .before .if3 .left)) _ (at-ext-rows .ext-rows .kept .1 .1 .1 .1 .1 .1 .1 .1 .1 .1 .0 ∙ at-entries .entries .kept .1 .1 .1 .1 .1 .0 ∙ ap length (p .1 .1 .0) ∙ length-replicate {A = ℕ} _ 0) (c .before .before .dead-entry .ensures) _ (c .before .if4 .left) (c .roots .ensures)
 
 pub matches-spec : {M : Type 1} → statement M
 matches-spec =

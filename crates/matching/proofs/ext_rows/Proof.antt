@@ -18,18 +18,25 @@ Inv-loop source ebits eside map reads calls cargs target tbits ent cls₀ n i₀
 abbrev μ-loop : tie.MeasureT-loop
 μ-loop source ebits eside map reads calls cargs target tbits ent cls₀ n i₀ cls i = n - i
 
+-- the start, from the first place past what is known of the lists
+abbrev start : tie.After-row-count Inv-loop μ-loop → tie.Start Inv-loop μ-loop
+start c = c .before .before .before .before .before .before .before .before .before .before .before .before
+
 row-count-requires : tie.Need-row-count-requires Inv-loop μ-loop
 row-count-requires c κs = search needs
 
 loop-holds : tie.Need-loop-holds Inv-loop μ-loop
 loop-holds c =
-    let s = c .before .before .before .before .before .before .before .before .before .before .before .before .args in
+    let at-start = start c in
+    let s = at-start .args in
     (omega arith, refl, rows-start (s .source .now) (s .ebits .now) (s .eside .now) (s .map .now) (s .reads .now) (s .calls .now) (s .cargs .now) (s .target .now) (s .tbits .now) (s .ent .now) (s .cls .now), λ j h. absurd (not-suc-le-zero h))
 
 ext-step-requires : tie.Need-ext-step-requires Inv-loop μ-loop
 ext-step-requires c κs =
-    let p = c .before .before .before .before .before .before .before .before .before .before .before .before .before .before .before .pre in
-    (p .0, ((p .1 .0, c .before .before .loop .inv .1 ∙ p .1 .1), rw (c .before .before .before .row-count .ensures) at (c .before .loop-test .taken)))
+    let at-row-count = c .before .before .before in
+    let at-start = start at-row-count in
+    let p = at-start .pre in
+    (p .0, ((p .1 .0, c .before .before .loop .inv .1 ∙ p .1 .1), rw (at-row-count .row-count .ensures) at (c .before .loop-test .taken)))
 
 is-accepted-requires : tie.Need-is-accepted-requires Inv-loop μ-loop
 is-accepted-requires c κs = search needs
@@ -39,10 +46,14 @@ same-length c = search needs
 
 returns : tie.Need-returns Inv-loop μ-loop
 returns c =
-    let s = c .before .before .before .before .before .before .before .before .before .before .before .before .before .before .before .before .before .before .before .before .args in
-    let l = c .before .before .before .before .before .before .before .loop in
+    let in-loop = c .before .before .before .before .before .before in
+    let at-loop = in-loop .before in
+    let at-row-count = at-loop .before in
+    let at-start = start at-row-count in
+    let s = at-start .args in
+    let l = at-loop .loop in
     let e = c .before .before .before .before .ext-step .ensures in
-    rows-stop (s .source .now) (s .ebits .now) (s .eside .now) (s .map .now) (s .reads .now) (s .calls .now) (s .cargs .now) (s .target .now) (s .tbits .now) (s .ent .now) (s .cls .now) (l .i) (l .cls) (l .inv .3) (l .inv .2) _ _ (rw (c .before .before .before .before .before .before .before .before .row-count .ensures) at (c .before .before .before .before .before .before .loop-test .taken)) (e .0) (e .1) (rw (c .before .is-accepted .ensures) at (c .if1 .taken))
+    rows-stop (s .source .now) (s .ebits .now) (s .eside .now) (s .map .now) (s .reads .now) (s .calls .now) (s .cargs .now) (s .target .now) (s .tbits .now) (s .ent .now) (s .cls .now) (l .i) (l .cls) (l .inv .3) (l .inv .2) _ _ (rw (at-row-count .row-count .ensures) at (in-loop .loop-test .taken)) (e .0) (e .1) (rw (c .before .is-accepted .ensures) at (c .if1 .taken))
 
 add-i : tie.Need-add-i Inv-loop μ-loop
 add-i c = search needs
@@ -52,10 +63,14 @@ loop-less c = search needs
 
 loop-again : tie.Need-loop-again Inv-loop μ-loop
 loop-again c =
-    let s = c .before .before .before .before .before .before .before .before .before .before .before .before .before .before .before .before .before .before .before .before .args in
-    let l = c .before .before .before .before .before .before .before .loop in
+    let in-loop = c .before .before .before .before .before .before in
+    let at-loop = in-loop .before in
+    let at-row-count = at-loop .before in
+    let at-start = start at-row-count in
+    let s = at-start .args in
+    let l = at-loop .loop in
     let e = c .before .before .before .before .ext-step .ensures in
-    let more = rows-more (s .source .now) (s .ebits .now) (s .eside .now) (s .map .now) (s .reads .now) (s .calls .now) (s .cargs .now) (s .target .now) (s .tbits .now) (s .ent .now) (s .cls .now) (l .i) (l .cls) (l .inv .3) (l .inv .2) _ _ (rw (c .before .before .before .before .before .before .before .before .row-count .ensures) at (c .before .before .before .before .before .before .loop-test .taken)) (e .0) (e .1) (rw (c .before .is-accepted .ensures) at (c .if1 .left)) in
+    let more = rows-more (s .source .now) (s .ebits .now) (s .eside .now) (s .map .now) (s .reads .now) (s .calls .now) (s .cargs .now) (s .target .now) (s .tbits .now) (s .ent .now) (s .cls .now) (l .i) (l .cls) (l .inv .3) (l .inv .2) _ _ (rw (at-row-count .row-count .ensures) at (in-loop .loop-test .taken)) (e .0) (e .1) (rw (c .before .is-accepted .ensures) at (c .if1 .left)) in
     let k = c .before .before .before .before .ext-step .kept in
     (omega arith, omega (arith, k), more .0, more .1)
 
@@ -64,9 +79,11 @@ same-length-2 c = search needs
 
 returns-2 : tie.Need-returns-2 Inv-loop μ-loop
 returns-2 c =
-    let s = c .before .before .before .before .before .before .before .before .before .before .before .before .before .before .args in
+    let at-row-count = c .before .before in
+    let at-start = start at-row-count in
+    let s = at-start .args in
     let l = c .before .loop in
-    let q = c .before .before .row-count .ensures in
+    let q = at-row-count .row-count .ensures in
     rows-end (s .source .now) (s .ebits .now) (s .eside .now) (s .map .now) (s .reads .now) (s .calls .now) (s .cargs .now) (s .target .now) (s .tbits .now) (s .ent .now) (s .cls .now) (l .i) (l .cls) (l .inv .3) (l .inv .2) (rw q at (l .inv .0)) (rw q at (c .loop-test .left))
 
 pub ext-rows-spec : {M : Type 1} → statement M

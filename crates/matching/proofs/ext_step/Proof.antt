@@ -6,6 +6,10 @@ use borrow.Author.Needs.{needs}
 use Rattle.matching.proofs.ext_step.Statement.{statement}
 use Rattle.matching.proofs.ext_step.Tie as tie
 
+-- the start, from the first place past what is known of the lists
+abbrev start : tie.After-map-at → tie.Start
+start c = c .before .before .before .before .before .before .before .before .before .before .before .before
+
 map-at-requires : tie.Need-map-at-requires
 map-at-requires c κs = search needs
 
@@ -22,7 +26,9 @@ returns-2 c = (rw (ne-eqb _ _ (λ z. c .before .before .if1 .left (c .before .be
 
 row-corr-requires : tie.Need-row-corr-requires
 row-corr-requires c κs =
-    let p = c .before .before .before .before .before .before .before .before .before .before .before .before .before .before .before .before .pre in
+    let at-map-at = c .before .before .before .before in
+    let at-start = start at-map-at in
+    let p = at-start .pre in
     (p .0, (p .1 .0, (p .1 .1, rw (c .before .before .row-count .ensures) at (c .before .if2 .left))))
 
 same-length : tie.Need-same-length

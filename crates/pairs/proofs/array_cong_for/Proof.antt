@@ -108,12 +108,16 @@ read-stands-requires c κs = search needs
 
 returns : tie.Need-returns Inv-loop μ-loop
 returns c =
-    let s = c .before .before .before .before .before .before .before .before .before .before .before .before .before .before .before .before .before .args in
-    let l = c .before .before .before .before .before .before .before .loop in
+    let in-loop = c .before .before .before .before .before .before in
+    let at-loop = in-loop .before in
+    let at-read-count = at-loop .before .before .before .before .before in
+    let at-start = at-read-count .before .before .before .before .before in
+    let s = at-start .args in
+    let l = at-loop .loop in
     sym
     (l .inv .1
     ∙ row-stop (s .troots .now) (readRoot (s .reads .now) (s .target .now)) (readsNeed (s .reads .now) (s .target .now) (s .tbits .now)) (readCount (s .reads .now)) (s .k) (l .idx) (l .l)
-    (rw (c .before .before .before .before .before .before .before .before .before .before .before .before .read-count .ensures) at (c .before .before .before .before .before .before .loop-test .taken)) (sym (needs-is (c .before .before .before .before .before)) ∙ c .before .before .before .before .if1 .taken) (sym (stands-is (c .before)) ∙ not-true _ (c .if2 .taken)))
+    (rw (at-read-count .read-count .ensures) at (in-loop .loop-test .taken)) (sym (needs-is (c .before .before .before .before .before)) ∙ c .before .before .before .before .if1 .taken) (sym (stands-is (c .before)) ∙ not-true _ (c .if2 .taken)))
 
 add-idx : tie.Need-add-idx Inv-loop μ-loop
 add-idx c = omega (arith, root-inside _ _ _ _ (sym (stands-is (c .before)) ∙ not-false _ (c .if2 .left)))
@@ -127,9 +131,11 @@ loop-less c = omega arith
 loop-again : tie.Need-loop-again Inv-loop μ-loop
 unfolding rootAt
 loop-again c =
-    let s = c .before .before .before .before .before .before .before .before .before .before .before .before .before .args in
+    let at-read-count = c .before .before .before .before .before .before .before .before in
+    let at-start = at-read-count .before .before .before .before .before in
+    let s = at-start .args in
     let l = c .before .before .before .loop in
-    let h = rw (c .before .before .before .before .before .before .before .before .read-count .ensures) at (c .before .before .loop-test .taken) in (
+    let h = rw (at-read-count .read-count .ensures) at (c .before .before .loop-test .taken) in (
       omega arith,
       l .inv .1 ∙ ⊎-elim
           (λ w. rw (w .5) (row-on (s .troots .now) (readRoot (s .reads .now) (s .target .now)) (readsNeed (s .reads .now) (s .target .now) (s .tbits .now)) (readCount (s .reads .now)) (s .k) (l .idx) (l .l) h (sym (needs-is (c .before)) ∙ w .0 .taken) (sym (w .3 .ensures) ∙ not-false _ (w .4 .left))))

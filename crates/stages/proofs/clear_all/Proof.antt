@@ -28,7 +28,11 @@ same-length-4 : tie.Need-same-length-4
 same-length-4 c = search needs
 
 returns : tie.Need-returns
-returns c = (c .before .before .before .before .before .before .before .before .before .before .before .before .before .before .clear .ensures, (c .before .before .before .before .before .before .before .before .before .before .clear2 .ensures, (c .before .before .before .before .before .before .clear3 .ensures, c .before .before .clear4 .ensures)))
+returns c =
+    let at-clear3 = c .before .before .before .before .before .before in
+    let at-clear2 = at-clear3 .before .before .before .before in
+    let at-clear = at-clear2 .before .before .before .before in
+    (at-clear .clear .ensures, (at-clear2 .clear2 .ensures, (at-clear3 .clear3 .ensures, c .before .before .clear4 .ensures)))
 
 pub clear-all-spec : {M : Type 1} → statement M
 clear-all-spec =

@@ -23,8 +23,10 @@ same-length-2 c = search needs
 
 returns : tie.Need-returns
 returns c =
-    let s = c .before .before .before .before .before .before .before .before .before .before .before .before .before .before .before .before .args in
-    let r = c .before .before .before .before .before .before .read-entries .ensures in
+    let at-read-entries = c .before .before .before .before .before .before in
+    let at-start = at-read-entries .before .before .before .before .before .before .before .before .before .before in
+    let s = at-start .args in
+    let r = at-read-entries .read-entries .ensures in
     (ap ReadTable (r .0) ∙ sym (read-5 (s .reads .now) (s .calls .now) (s .cargs .now) (s .target .now) (s .ws .now) (s .cls .now) (rw (r .0, c .before .read-count .ensures) at (c .if1 .taken))), (λ h. no-way (sym h), λ h. no-way (sym h)))
 
 call-entries-requires : tie.Need-call-entries-requires
@@ -41,13 +43,18 @@ same-length-4 c = search needs
 
 returns-2 : tie.Need-returns-2
 returns-2 c =
-    let s = c .before .before .before .before .before .before .before .before .before .before .before .before .before .before .before .before .before .before .before .before .before .before .before .before .before .args in
-    let r = c .before .before .before .before .before .before .before .before .before .before .before .before .before .before .before .read-entries .ensures in
-    let a : readCount (s .reads .now) ≤ badRead (s .reads .now) (s .target .now) (s .ws .now) (s .cls .now) = rw (r .0, c .before .before .before .before .before .before .before .before .before .before .read-count .ensures) at (c .before .before .before .before .before .before .before .before .before .if1 .left) in
+    let at-call-entries = c .before .before .before .before .before .before in
+    let at-else1 = at-call-entries .before .before .before in
+    let at-read-count = at-else1 .before in
+    let at-read-entries = at-read-count .before .before .before .before .before in
+    let at-start = at-read-entries .before .before .before .before .before .before .before .before .before .before in
+    let s = at-start .args in
+    let r = at-read-entries .read-entries .ensures in
+    let a : readCount (s .reads .now) ≤ badRead (s .reads .now) (s .target .now) (s .ws .now) (s .cls .now) = rw (r .0, at-read-count .read-count .ensures) at (at-else1 .if1 .left) in
     let all = all-reads (s .reads .now) (s .target .now) (s .ws .now) (s .cls .now) a in
     let marked = rw (r .0, all) at (r .1 .0) in
     let offs = rw (r .0, all) at (r .1 .1) in
-    let k = c .before .before .before .before .before .before .call-entries .ensures in
+    let k = at-call-entries .call-entries .ensures in
     let bad = rw marked at (k .0) in
     (ap CallTable bad ∙ sym (call-6 (s .reads .now) (s .calls .now) (s .cargs .now) (s .target .now) (s .ws .now) (s .cls .now) a (rw (bad, c .before .call-count .ensures) at (c .if2 .taken))), (λ h. no-way (sym h), λ h. no-way (sym h)))
 
@@ -59,13 +66,18 @@ same-length-6 c = search needs
 
 returns-3 : tie.Need-returns-3
 returns-3 c =
-    let s = c .before .before .before .before .before .before .before .before .before .before .before .before .before .before .before .before .before .before .before .before .before .before .before .before .before .args in
-    let r = c .before .before .before .before .before .before .before .before .before .before .before .before .before .before .before .read-entries .ensures in
-    let a : readCount (s .reads .now) ≤ badRead (s .reads .now) (s .target .now) (s .ws .now) (s .cls .now) = rw (r .0, c .before .before .before .before .before .before .before .before .before .before .read-count .ensures) at (c .before .before .before .before .before .before .before .before .before .if1 .left) in
+    let at-call-entries = c .before .before .before .before .before .before in
+    let at-else1 = at-call-entries .before .before .before in
+    let at-read-count = at-else1 .before in
+    let at-read-entries = at-read-count .before .before .before .before .before in
+    let at-start = at-read-entries .before .before .before .before .before .before .before .before .before .before in
+    let s = at-start .args in
+    let r = at-read-entries .read-entries .ensures in
+    let a : readCount (s .reads .now) ≤ badRead (s .reads .now) (s .target .now) (s .ws .now) (s .cls .now) = rw (r .0, at-read-count .read-count .ensures) at (at-else1 .if1 .left) in
     let all = all-reads (s .reads .now) (s .target .now) (s .ws .now) (s .cls .now) a in
     let marked = rw (r .0, all) at (r .1 .0) in
     let offs = rw (r .0, all) at (r .1 .1) in
-    let k = c .before .before .before .before .before .before .call-entries .ensures in
+    let k = at-call-entries .call-entries .ensures in
     let bad = rw marked at (k .0) in
     let b = rw (bad, c .before .call-count .ensures) at (c .if2 .left) in
     let every = bad ∙ all-calls (s .calls .now) (s .cargs .now) (s .target .now) _ b in

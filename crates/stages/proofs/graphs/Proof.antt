@@ -24,8 +24,10 @@ row-count-requires c κs = search needs
 
 graph-answer-requires : tie.Need-graph-answer-requires
 graph-answer-requires c κs =
-    let s = c .before .before .before .before .before .before .before .before .before .before .before .before .before .args in
-    let x = c .before .before .before .before .graph-wf .ensures .0 in
+    let at-graph-wf = c .before .before .before .before in
+    let at-start = at-graph-wf .before .before .before .before .before .before .before .before .before in
+    let s = at-start .args in
+    let x = at-graph-wf .graph-wf .ensures .0 in
     let e = length (s .ebits .now) in
     (rw x (stop-le Source e (s .eside .now) (s .source .now)), (λ j h. stop-good Source e (s .eside .now) (s .source .now) j (rw x at h), (omega arith, λ j h. absurd (omega arith))))
 
@@ -38,8 +40,10 @@ stopped s eb t tb x y h accepts = let n = no-stop-source s eb t tb x y accepts i
 
 returns : tie.Need-returns
 returns c =
-    let s = c .before .before .before .before .before .before .before .before .before .before .before .before .before .before .args in
-    let x = c .before .before .before .before .before .graph-wf .ensures in
+    let at-graph-wf = c .before .before .before .before .before in
+    let at-start = at-graph-wf .before .before .before .before .before .before .before .before .before in
+    let s = at-start .args in
+    let x = at-graph-wf .graph-wf .ensures in
     let t = length (s .tbits .now) in
     let n = rw (x .0, c .before .before .row-count .ensures) at (c .before .if1 .taken) in
     let a = rw (x .0) at (c .graph-answer .ensures) in
@@ -59,8 +63,10 @@ graph-wf-requires-2 c κs = search needs
 
 graph-answer-requires-2 : tie.Need-graph-answer-requires-2
 graph-answer-requires-2 c κs =
-    let s = c .before .before .before .before .before .before .before .before .before .before .before .before .before .before .before .before .before .before .args in
-    let x = c .before .before .before .before .before .before .before .before .before .graph-wf .ensures .0 in
+    let at-graph-wf = c .before .before .before .before .before .before .before .before .before in
+    let at-start = at-graph-wf .before .before .before .before .before .before .before .before .before in
+    let s = at-start .args in
+    let x = at-graph-wf .graph-wf .ensures .0 in
     let y = c .before .before .graph-wf2 .ensures .0 in
     let e = length (s .ebits .now) in
     let t = length (s .tbits .now) in
@@ -74,8 +80,10 @@ same-length-3 c = search needs
 
 returns-2 : tie.Need-returns-2
 returns-2 c =
-    let s = c .before .before .before .before .before .before .before .before .before .before .before .before .before .before .before .before .before .before .before .args in
-    let x = c .before .before .before .before .before .before .before .before .before .before .graph-wf .ensures in
+    let at-graph-wf = c .before .before .before .before .before .before .before .before .before .before in
+    let at-start = at-graph-wf .before .before .before .before .before .before .before .before .before in
+    let s = at-start .args in
+    let x = at-graph-wf .graph-wf .ensures in
     let y = c .before .before .before .graph-wf2 .ensures in
     let e = length (s .ebits .now) in
     let t = length (s .tbits .now) in
