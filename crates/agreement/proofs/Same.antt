@@ -6,7 +6,8 @@ use Prim.Native.Nat.{ℕ}
 use Rattle.answers.specs.declared.Words.{Words}
 use Rattle.widths.specs.Widths.{sourceWidths, targetWidths}
 use Rattle.values.specs.Values.{values}
-use Rattle.lowering.specs.Check.{Lowering, lowering, check}
+use Rattle.lowering.specs.Lowering.{Lowering, lowering}
+use Rattle.lowering.specs.Check.{check}
 use Rattle.gilfrunt.specs.Exports.{Result, result, resultOf, Results, results, resultsOf, Checked, checked, checkedOf}
 use Rattle.cases.specs.Case.{given}
 use Rattle.agreement.specs.Agrees.{widthsOf, checkOf}

@@ -7,7 +7,8 @@ use lib.ListN.{length, getD}
 use Rattle.answers.specs.Answer.{wordsOf}
 use Rattle.widths.specs.Widths.{Out, sourceWidths, targetWidths, rootsAnswer}
 use Rattle.values.specs.Values.{values}
-use Rattle.lowering.specs.Check.{Outcome, lowering, check}
+use Rattle.lowering.specs.Lowering.{lowering}
+use Rattle.lowering.specs.Check.{Outcome, check}
 use Rattle.book.specs.Book.{sectionAnswer, section}
 use Rattle.judge.specs.Judge.{verdict}
 use Rattle.gilfrunt.specs.Exports.{result, resultOf, results, resultsOf, checked, checkedOf}

@@ -18,8 +18,9 @@ use Rattle.rows.specs.Encoding.{badRow, badBit}
 use Rattle.lowering.specs.Images.{MAX, mapAt, sameConst}
 use Rattle.lowering.specs.Tables.{readCount, callCount, badRead, badCall}
 use Rattle.lowering.specs.Roots.{Pair, badLead, badCong, readPairs, callPairs, readRoot, callRoot}
-use Rattle.lowering.specs.Matching.{walk, endGood, callMatches, varMatches, nodeMatches, matched, nodeAnswer, rowAnswer}
-use Rattle.lowering.specs.Check.{Lowering, sourceRows, targetRows, widthsOfTarget, noClasses, classesOfReads, deadVariable, answerOf, mismatch, offsets, classes, refuse, firstRefusal, countAnswers, graphAnswers, rootAnswers, matchAnswers}
+use Rattle.lowering.specs.Matching.{selectWalk, endGood, callMatches, varMatches, nodeMatches, matched, nodeAnswer, rowAnswer}
+use Rattle.lowering.specs.Lowering.{Lowering, Binding, bindingOf, sourceRows, targetRows}
+use Rattle.lowering.specs.Check.{widthsOfTarget, noClasses, classesOfReads, deadVariable, answerOf, mismatch, offsets, classes, refuse, firstRefusal, countAnswers, graphAnswers, rootAnswers, matchAnswers}
 
 -- a test's refusal, where it is none of the two
 keeps-refuse : (b : Bool) (a : Answer) → keeps a ≡ false → keeps (refuse b a) ≡ false
@@ -84,17 +85,17 @@ keeps-graphs s eb t tb x y = keeps-first (graphAnswers s eb t tb x y) (row0, (ro
     ill1 : keeps (refuse (ltb y (rowCount Target t)) (Core y)) ≡ false
     ill1 = keeps-refuse (ltb y (rowCount Target t)) (Core y) refl
 
-module _ (source ebits eside map reads calls cargs target tbits ent cls : List ℕ) (i r : ℕ) where
-  keeps-node : (node : Node) → keeps (nodeAnswer source ebits eside map reads calls cargs target tbits ent cls i r node) ≡ false
-  keeps-node (Var w) = keeps-matched (varMatches target cls w r) (VarClass i) refl
-  keeps-node (Const s w) = keeps-matched (sameConst ebits (rowAt Source source i) tbits (rowAt Target target r)) (ConstMismatch i) refl
-  keeps-node (Un t a) = keeps-matched (nodeMatches map target (Un t a) r) (NodeMismatch i) refl
-  keeps-node (Bin t a b) = keeps-matched (nodeMatches map target (Bin t a b) r) (NodeMismatch i) refl
-  keeps-node (Extract h l a) = keeps-matched (nodeMatches map target (Extract h l a) r) (NodeMismatch i) refl
-  keeps-node (Extend t a n) = keeps-matched (nodeMatches map target (Extend t a n) r) (NodeMismatch i) refl
-  keeps-node (Ite c t e) = keeps-matched (nodeMatches map target (Ite c t e) r) (NodeMismatch i) refl
-  keeps-node (Select a j s k) = keeps-matched (endGood map reads target ent cls a j (walk source ebits eside map target j k s r)) (ChainMismatch i) refl
-  keeps-node (Call f w s k) = keeps-matched (callMatches eside map calls cargs target ent cls f w s k r) (CallMismatch i) refl
+module _ (B : Binding) (ent cls : List ℕ) (i r : ℕ) where
+  keeps-node : (node : Node) → keeps (nodeAnswer B ent cls i r node) ≡ false
+  keeps-node (Var w) = keeps-matched (varMatches (B .target) cls w r) (VarClass i) refl
+  keeps-node (Const s w) = keeps-matched (sameConst (B .ebits) (rowAt Source (B .source) i) (B .tbits) (rowAt Target (B .target) r)) (ConstMismatch i) refl
+  keeps-node (Un t a) = keeps-matched (nodeMatches (B .map) (B .target) (Un t a) r) (NodeMismatch i) refl
+  keeps-node (Bin t a b) = keeps-matched (nodeMatches (B .map) (B .target) (Bin t a b) r) (NodeMismatch i) refl
+  keeps-node (Extract h l a) = keeps-matched (nodeMatches (B .map) (B .target) (Extract h l a) r) (NodeMismatch i) refl
+  keeps-node (Extend t a n) = keeps-matched (nodeMatches (B .map) (B .target) (Extend t a n) r) (NodeMismatch i) refl
+  keeps-node (Ite c t e) = keeps-matched (nodeMatches (B .map) (B .target) (Ite c t e) r) (NodeMismatch i) refl
+  keeps-node (Select a j s k) = keeps-matched (endGood (B .map) (B .reads) (B .target) ent cls a j (selectWalk B r j s k)) (ChainMismatch i) refl
+  keeps-node (Call f w s k) = keeps-matched (callMatches (B .eside) (B .map) (B .calls) (B .cargs) (B .target) ent cls f w s k r) (CallMismatch i) refl
   keeps-node Unknown = refl
 
 keeps-row : (L : Lowering) (i : ℕ) → keeps (answerOf L i) ≡ false
@@ -102,11 +103,11 @@ unfolding rowAnswer
 keeps-row L i = go (eqb (mapAt (L .map) i) MAX) (ltb (mapAt (L .map) i) (rowCount Target (L .target)))
   where
     node : Answer
-    node = nodeAnswer (L .source) (L .ebits) (L .eside) (L .map) (L .reads) (L .calls) (L .cargs) (L .target) (L .tbits) (offsets L) (classes L i) i (mapAt (L .map) i) (nodeOf (rowAt Source (L .source) i))
+    node = nodeAnswer (bindingOf L) (offsets L) (classes L i) i (mapAt (L .map) i) (nodeOf (rowAt Source (L .source) i))
 
     go : (b c : Bool) → keeps (cond b Accepted (cond c node (MapOutOfRange i))) ≡ false
     go true c = refl
-    go false true = keeps-node (L .source) (L .ebits) (L .eside) (L .map) (L .reads) (L .calls) (L .cargs) (L .target) (L .tbits) (offsets L) (classes L i) i (mapAt (L .map) i) (nodeOf (rowAt Source (L .source) i))
+    go false true = keeps-node (bindingOf L) (offsets L) (classes L i) i (mapAt (L .map) i) (nodeOf (rowAt Source (L .source) i))
     go false false = refl
 
 module _ (L : Lowering) where

@@ -17,7 +17,8 @@ use Rattle.rows.specs.Row.{rowCount}
 use Rattle.wf.specs.Widths.{rowWidth, widths}
 use Rattle.wf.proofs.Promise.{well-formed}
 use Rattle.lowering.specs.Tables.{readCount, readVar, callCount, callVar, readOffsets}
-use Rattle.lowering.specs.Check.{Lowering, sourceRows, targetRows, widthsOfSource, widthsOfTarget, sourceIll, targetIll, noClasses, classesOfReads, classes, offsets, refuse, firstRefusal, countAnswers, graphAnswers, graphsAnswer, matchAnswers, checkAnswer, Outcome, outcome, check}
+use Rattle.lowering.specs.Lowering.{Lowering, sourceRows, targetRows}
+use Rattle.lowering.specs.Check.{widthsOfSource, widthsOfTarget, sourceIll, targetIll, noClasses, classesOfReads, classes, offsets, refuse, firstRefusal, countAnswers, graphAnswers, graphsAnswer, matchAnswers, checkAnswer, Outcome, outcome, check}
 use Rattle.lowering.proofs.Classes.{classes-keep-length}
 use Rattle.lowering.proofs.Inversion.{each-accepted, not-refused}
 use Rattle.lowering.proofs.Marks.{marks-length}

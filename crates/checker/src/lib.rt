@@ -1,6 +1,7 @@
 // The operation Check.
 ghost use mathlib.Core.Path.{_≡_};
-ghost use Rattle.lowering.specs.Check.{lowering, outcome, check};
+ghost use Rattle.lowering.specs.Lowering.{lowering};
+ghost use Rattle.lowering.specs.Check.{outcome, check};
 use answers::Answer;
 use rows::Graph;
 

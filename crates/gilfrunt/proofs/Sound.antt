@@ -9,7 +9,8 @@ use Rattle.answers.specs.declared.Answer.{Answer}
 use Rattle.answers.specs.declared.Words.{Words}
 use Rattle.answers.specs.Answer.{wordsOf, isAccepted}
 use Rattle.lowering.specs.Images.{MAX}
-use Rattle.lowering.specs.Check.{Lowering, Outcome, outcome, check}
+use Rattle.lowering.specs.Lowering.{Lowering}
+use Rattle.lowering.specs.Check.{Outcome, outcome, check}
 use Rattle.soundness.specs.Sound.{Sound}
 use Rattle.soundness.proofs.Theorem.{sound}
 use Rattle.judge.specs.Judge.{held, Judged, judged, judge}

@@ -11,7 +11,8 @@ use Rattle.answers.specs.declared.Answer.{Answer}
 use Rattle.answers.specs.declared.Answer.the-variants.{Accepted, WorkShort, BookShape}
 use Rattle.answers.specs.Answer.{isAccepted, keeps, lent, andThen}
 use Rattle.lists.proofs.Choice.{no-way}
-use Rattle.lowering.specs.Check.{Lowering, lowering, sourceRows, widthsOfSource, widthsOfTarget, classes, offsets, refuse, firstRefusal, countAnswers, checkAnswer, Outcome, outcome, check}
+use Rattle.lowering.specs.Lowering.{Lowering, lowering, sourceRows}
+use Rattle.lowering.specs.Check.{widthsOfSource, widthsOfTarget, classes, offsets, refuse, firstRefusal, countAnswers, checkAnswer, Outcome, outcome, check}
 use Rattle.checker.proofs.Keeps.{keeps-count}
 use Rattle.checker.proofs.Outcome.{keeps-rest}
 use Rattle.book.specs.Book.{sections, contents, dueAt, firstBad, body, bookAnswer}

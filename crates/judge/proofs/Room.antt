@@ -10,7 +10,8 @@ use lib.ListN.{length}
 use Rattle.answers.specs.declared.Answer.{Answer}
 use Rattle.answers.specs.declared.Answer.the-variants.{WorkShort, BookShape}
 use Rattle.answers.specs.Answer.{isAccepted, andThen}
-use Rattle.lowering.specs.Check.{Lowering, sourceRows, targetRows, sourceIll, targetIll, refuse, firstRefusal, countAnswers, graphAnswers, matchAnswers, checkAnswer}
+use Rattle.lowering.specs.Lowering.{Lowering, sourceRows, targetRows}
+use Rattle.lowering.specs.Check.{sourceIll, targetIll, refuse, firstRefusal, countAnswers, graphAnswers, matchAnswers, checkAnswer}
 use Rattle.lowering.proofs.Refusals.{refusal-append}
 use Rattle.book.specs.Book.{sections, contents, dueAt, bookAnswer}
 use Rattle.book.specs.Words.{Good, listOf, loaded}

@@ -9,7 +9,8 @@ use Rattle.answers.specs.declared.Answer.the-variants.{WorkShort, BookShape}
 use Rattle.answers.specs.Answer.{andThen, lent}
 use Rattle.book.specs.Book.{sections, body, bookAnswer}
 use Rattle.book.specs.Words.{listOf, loaded}
-use Rattle.lowering.specs.Check.{Lowering, lowering, sourceRows, targetRows, widthsOfSource, widthsOfTarget, classes, offsets, refuse, firstRefusal, countAnswers, checkAnswer}
+use Rattle.lowering.specs.Lowering.{Lowering, lowering, sourceRows, targetRows}
+use Rattle.lowering.specs.Check.{widthsOfSource, widthsOfTarget, classes, offsets, refuse, firstRefusal, countAnswers, checkAnswer}
 
 -- "the bodies in the order of `check_sliver_lowering`'s arguments"
 abbrev pub held : List ℕ → Lowering

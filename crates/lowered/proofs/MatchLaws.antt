@@ -17,7 +17,8 @@ use Rattle.rows.specs.declared.Graph.the-variants.{Target}
 use Rattle.wf.specs.Widths.{rowWidth}
 use Rattle.lowering.specs.Tables.{readCount, callCount, readClasses, callClasses, readOffsets, callOffsets}
 use Rattle.lowering.specs.Matching.{classesTo, refusedRow, allRowsAnswer, deadEntry}
-use Rattle.lowering.specs.Check.{Lowering, sourceRows, targetRows, widthsOfTarget, noClasses, classesOfReads, classesOfTables, classes, offsets, answerOf, mismatch, rowsRefusal, deadVariable, refuse, firstRefusal, tableAnswers, rootAnswers, matchAnswers}
+use Rattle.lowering.specs.Lowering.{Lowering, sourceRows, targetRows, bindingOf}
+use Rattle.lowering.specs.Check.{widthsOfTarget, noClasses, classesOfReads, classesOfTables, classes, offsets, answerOf, mismatch, rowsRefusal, deadVariable, refuse, firstRefusal, tableAnswers, rootAnswers, matchAnswers}
 use Rattle.lowering.proofs.Inversion.{each-accepted, not-refused, all-pass, first-refused}
 use Rattle.lowering.proofs.Refusals.{refusal-append}
 use Rattle.pairs.specs.Walk.{ReadsIn}
@@ -121,8 +122,7 @@ module _ (L : Lowering) (ws cls0 ent0 : List ℕ) (wide : ws ≡ widthsOfTarget 
     ent-is : ent1 ≡ offsets L
     ent-is = rw clear-too at (placed ok)
 
-    module _ (r : Answer) (cls2 : List ℕ) (rows : r ≡ allRowsAnswer (L .source) (L .ebits) (L .eside) (L .map) (L .reads) (L .calls) (L .cargs) (L .target) (L .tbits) ent1 cls1)
-        (after : cls2 ≡ classesTo (L .source) (L .ebits) (L .eside) (L .map) (L .target) cls1 (refusedRow (L .source) (L .ebits) (L .eside) (L .map) (L .reads) (L .calls) (L .cargs) (L .target) (L .tbits) ent1 cls1)) where
+    module _ (r : Answer) (cls2 : List ℕ) (rows : r ≡ allRowsAnswer (bindingOf L) ent1 cls1) (after : cls2 ≡ classesTo (bindingOf L) cls1 (refusedRow (bindingOf L) ent1 cls1)) where
       rows-are : r ≡ rowsRefusal L
       rows-are = rows ∙ rw (cls-is, ent-is)
 

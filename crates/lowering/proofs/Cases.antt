@@ -15,7 +15,8 @@ use Rattle.lowering.specs.Images.{MAX, rowIs, bothConst, sameConst, uneq
 use Rattle.lowering.specs.Tables.{sameRead, sameFunction, sameCall, readGood, callGood}
 use Rattle.lowering.specs.Matching.{isEq, isLevel, walk, endGood, callMatches, varMatches, nodeMatches, rowAnswer, rowClasses}
 use Rattle.lowering.specs.Roots.{leads, pairsWith, pairs, readsNeed, allEqual, congruent, rootAt}
-use Rattle.lowering.specs.Check.{Lowering, lowering, Outcome, outcome, firstRefusal, check, checkAnswer}
+use Rattle.lowering.specs.Lowering.{Lowering, lowering}
+use Rattle.lowering.specs.Check.{Outcome, outcome, firstRefusal, check, checkAnswer}
 
 -- rows, one after the other
 abbrev s5 : ℕ → ℕ → ℕ → ℕ → ℕ → List ℕ → List ℕ

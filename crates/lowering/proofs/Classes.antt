@@ -14,16 +14,17 @@ use Rattle.rows.specs.Node.{nodeOf}
 use Rattle.lowering.specs.declared.Walk.{Walk}
 use Rattle.lowering.specs.declared.Walk.the-variants.{RanOut, Met, Lost}
 use Rattle.lowering.specs.Images.{MAX, mapAt}
-use Rattle.lowering.specs.Matching.{walk, endClasses, nodeClasses, rowClasses}
-use Rattle.lowering.specs.Check.{Lowering, classesOfTables, classes}
+use Rattle.lowering.specs.Matching.{selectWalk, endClasses, nodeClasses, rowClasses}
+use Rattle.lowering.specs.Lowering.{Lowering, Binding, bindingOf}
+use Rattle.lowering.specs.Check.{classesOfTables, classes}
 
 end-length : (cls : List ℕ) (o : Walk) → length (endClasses cls o) ≡ length cls
 end-length cls (RanOut r) = length-set cls r 4
 end-length cls (Met r v) = refl
 end-length cls Lost = refl
 
-module _ (source ebits eside map target : List ℕ) where
-  node-length : (cls : List ℕ) (r : ℕ) (node : Node) → length (nodeClasses source ebits eside map target cls r node) ≡ length cls
+module _ (B : Binding) where
+  node-length : (cls : List ℕ) (r : ℕ) (node : Node) → length (nodeClasses B cls r node) ≡ length cls
   node-length cls r (Var w) = length-set cls r 1
   node-length cls r (Const s w) = refl
   node-length cls r (Un t a) = refl
@@ -31,19 +32,19 @@ module _ (source ebits eside map target : List ℕ) where
   node-length cls r (Extract h l a) = refl
   node-length cls r (Extend t a n) = refl
   node-length cls r (Ite c t e) = refl
-  node-length cls r (Select a j s k) = end-length cls (walk source ebits eside map target j k s r)
+  node-length cls r (Select a j s k) = end-length cls (selectWalk B r j s k)
   node-length cls r (Call f w s k) = length-set cls r 5
   node-length cls r Unknown = refl
 
-  row-length : (i : ℕ) (cls : List ℕ) → length (rowClasses source ebits eside map target i cls) ≡ length cls
+  row-length : (i : ℕ) (cls : List ℕ) → length (rowClasses B i cls) ≡ length cls
   unfolding rowClasses
-  row-length i cls = go (eqb (mapAt map i) MAX)
+  row-length i cls = go (eqb (mapAt (B .map) i) MAX)
     where
-      go : (b : Bool) → length (cond b cls (nodeClasses source ebits eside map target cls (mapAt map i) (nodeOf (rowAt Source source i)))) ≡ length cls
+      go : (b : Bool) → length (cond b cls (nodeClasses B cls (mapAt (B .map) i) (nodeOf (rowAt Source (B .source) i)))) ≡ length cls
       go true = refl
-      go false = node-length cls (mapAt map i) (nodeOf (rowAt Source source i))
+      go false = node-length cls (mapAt (B .map) i) (nodeOf (rowAt Source (B .source) i))
 
 pub classes-keep-length : (L : Lowering) (n : ℕ) → length (classes L n) ≡ length (classesOfTables L)
 unfolding trace
 classes-keep-length L zero = refl
-classes-keep-length L (suc n) = row-length (L .source) (L .ebits) (L .eside) (L .map) (L .target) n (classes L n) ∙ classes-keep-length L n
+classes-keep-length L (suc n) = row-length (bindingOf L) n (classes L n) ∙ classes-keep-length L n

@@ -11,35 +11,12 @@ use Rattle.rows.specs.declared.Graph.the-variants.{Source, Target}
 use Rattle.rows.specs.Row.{rowCount, ragged}
 use Rattle.rows.specs.Encoding.{badRow, badBit}
 use Rattle.wf.specs.Widths.{illRow, widths}
+use Rattle.lowering.specs.Lowering.{Lowering, sourceRows, targetRows, bindingOf}
 use Rattle.lowering.specs.Tables.{readCount, callCount, badRead, badCall, readClasses, callClasses, readOffsets, callOffsets}
 use Rattle.lowering.specs.Matching.{rowAnswer, classesTo, refusedRow, allRowsAnswer, deadEntry}
 use Rattle.lowering.specs.Roots.{Pair, badLead, readPairs, callPairs, readRoot, callRoot, badCong}
 
--- what Check is asked: the eleven lists of `check_sliver_lowering`, in its order (its `e` and `t` are the source and the target)
-pub record Lowering : Type 0 where
-  pub source : List ℕ
-  pub ebits : List ℕ
-  pub eside : List ℕ
-  pub eroots : List ℕ
-  pub map : List ℕ
-  pub reads : List ℕ
-  pub calls : List ℕ
-  pub cargs : List ℕ
-  pub target : List ℕ
-  pub tbits : List ℕ
-  pub troots : List ℕ
-
-abbrev pub lowering : List ℕ → List ℕ → List ℕ → List ℕ → List ℕ → List ℕ → List ℕ → List ℕ → List ℕ → List ℕ → List ℕ → Lowering
-lowering source ebits eside eroots map reads calls cargs target tbits troots =
-    record { source = source; ebits = ebits; eside = eside; eroots = eroots; map = map; reads = reads; calls = calls; cargs = cargs; target = target; tbits = tbits; troots = troots }
-
 module _ (L : Lowering) where
-  abbrev pub sourceRows : ℕ
-  sourceRows = rowCount Source (L .source)
-
-  abbrev pub targetRows : ℕ
-  targetRows = rowCount Target (L .target)
-
   abbrev pub sourceIll : ℕ
   sourceIll = illRow Source (length (L .ebits)) (L .eside) (L .source)
 
@@ -54,7 +31,7 @@ module _ (L : Lowering) where
 
   -- "Each target row has a class, first 0": classes before the calls, before the rows, before row n
   abbrev pub noClasses : List ℕ
-  noClasses = replicate targetRows 0
+  noClasses = replicate (targetRows L) 0
 
   abbrev pub classesOfReads : List ℕ
   classesOfReads = readClasses (L .reads) noClasses (readCount (L .reads))
@@ -63,24 +40,23 @@ module _ (L : Lowering) where
   classesOfTables = callClasses (L .calls) classesOfReads (callCount (L .calls))
 
   abbrev pub classes : ℕ → List ℕ
-  classes n = classesTo (L .source) (L .ebits) (L .eside) (L .map) (L .target) classesOfTables n
+  classes n = classesTo (bindingOf L) classesOfTables n
 
   abbrev pub offsets : List ℕ
-  offsets = callOffsets (L .calls) (readOffsets (L .reads) (replicate targetRows 0) (readCount (L .reads))) (callCount (L .calls))
+  offsets = callOffsets (L .calls) (readOffsets (L .reads) (replicate (targetRows L) 0) (readCount (L .reads))) (callCount (L .calls))
 
   -- the answer of row i, the first row that is refused, and the answer of all rows
   abbrev pub answerOf : ℕ → Answer
-  answerOf i =
-      rowAnswer (L .source) (L .ebits) (L .eside) (L .map) (L .reads) (L .calls) (L .cargs) (L .target) (L .tbits) offsets (classes i) i
+  answerOf i = rowAnswer (bindingOf L) offsets (classes i) i
 
   abbrev pub mismatch : ℕ
-  mismatch = refusedRow (L .source) (L .ebits) (L .eside) (L .map) (L .reads) (L .calls) (L .cargs) (L .target) (L .tbits) offsets classesOfTables
+  mismatch = refusedRow (bindingOf L) offsets classesOfTables
 
   abbrev pub rowsRefusal : Answer
-  rowsRefusal = allRowsAnswer (L .source) (L .ebits) (L .eside) (L .map) (L .reads) (L .calls) (L .cargs) (L .target) (L .tbits) offsets classesOfTables
+  rowsRefusal = allRowsAnswer (bindingOf L) offsets classesOfTables
 
   abbrev pub deadVariable : ℕ
-  deadVariable = deadEntry (classes sourceRows) targetRows
+  deadVariable = deadEntry (classes (sourceRows L)) (targetRows L)
 
   abbrev pub pairsOfReads : List Pair
   pairsOfReads = readPairs (L .reads) (L .target) (L .tbits)

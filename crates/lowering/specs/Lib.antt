@@ -1,3 +1,4 @@
+pub mod Lowering
 pub mod Images
 pub mod Tables
 pub mod Matching

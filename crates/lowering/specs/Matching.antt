@@ -18,6 +18,7 @@ use Rattle.rows.specs.Tags.{tIte, tEq, either}
 use Rattle.rows.specs.Node.{nodeOf}
 use Rattle.lowering.specs.declared.Walk.{Walk}
 use Rattle.lowering.specs.declared.Walk.the-variants.{RanOut, Met, Lost}
+use Rattle.lowering.specs.Lowering.{Binding}
 use Rattle.lowering.specs.Images.{MAX, mapAt, mapNode, rowIs, tagAt, fieldAt, bothConst, sameConst}
 
 -- target row r is Eq(a, b)
@@ -85,32 +86,35 @@ nodeMatches map target node r = rowIs (rowAt Target target r) (mapNode map node)
 abbrev pub matched : Bool → Answer → Answer
 matched b refusal = cond b Accepted refusal
 
--- the answer for source row i, a node with image r: 7 to 11
-abbrev pub nodeAnswer : List ℕ → List ℕ → List ℕ → List ℕ → List ℕ → List ℕ → List ℕ → List ℕ → List ℕ → List ℕ → List ℕ → ℕ → ℕ → Node → Answer
-nodeAnswer source ebits eside map reads calls cargs target tbits ent cls i r (Var w) = matched (varMatches target cls w r) (VarClass i)
-nodeAnswer source ebits eside map reads calls cargs target tbits ent cls i r (Const s w) =
-    matched (sameConst ebits (rowAt Source source i) tbits (rowAt Target target r)) (ConstMismatch i)
-nodeAnswer source ebits eside map reads calls cargs target tbits ent cls i r (Select a j s k) =
-    matched (endGood map reads target ent cls a j (walk source ebits eside map target j k s r)) (ChainMismatch i)
-nodeAnswer source ebits eside map reads calls cargs target tbits ent cls i r (Call f w s k) =
-    matched (callMatches eside map calls cargs target ent cls f w s k r) (CallMismatch i)
-nodeAnswer source ebits eside map reads calls cargs target tbits ent cls i r (Un t a) = matched (nodeMatches map target (Un t a) r) (NodeMismatch i)
-nodeAnswer source ebits eside map reads calls cargs target tbits ent cls i r (Bin t a b) = matched (nodeMatches map target (Bin t a b) r) (NodeMismatch i)
-nodeAnswer source ebits eside map reads calls cargs target tbits ent cls i r (Extract h l a) =
-    matched (nodeMatches map target (Extract h l a) r) (NodeMismatch i)
-nodeAnswer source ebits eside map reads calls cargs target tbits ent cls i r (Extend t a n) =
-    matched (nodeMatches map target (Extend t a n) r) (NodeMismatch i)
-nodeAnswer source ebits eside map reads calls cargs target tbits ent cls i r (Ite c t e) = matched (nodeMatches map target (Ite c t e) r) (NodeMismatch i)
-nodeAnswer source ebits eside map reads calls cargs target tbits ent cls i r Unknown = NodeMismatch i
+-- the answer for a core row: "image equals the mapped row"
+abbrev pub coreAnswer : Binding → ℕ → ℕ → Node → Answer
+coreAnswer B i r node = matched (nodeMatches (B .map) (B .target) node r) (NodeMismatch i)
+
+-- the walk of a Select with image r
+abbrev pub selectWalk : Binding → ℕ → ℕ → ℕ → ℕ → Walk
+selectWalk B r j s k = walk (B .source) (B .ebits) (B .eside) (B .map) (B .target) j k s r
+
+-- the answer for source row i, a node with image r: 7 to 11. The entry offsets are ent, the classes cls
+abbrev pub nodeAnswer : Binding → List ℕ → List ℕ → ℕ → ℕ → Node → Answer
+nodeAnswer B ent cls i r (Var w) = matched (varMatches (B .target) cls w r) (VarClass i)
+nodeAnswer B ent cls i r (Const s w) =
+    matched (sameConst (B .ebits) (rowAt Source (B .source) i) (B .tbits) (rowAt Target (B .target) r)) (ConstMismatch i)
+nodeAnswer B ent cls i r (Un t a) = coreAnswer B i r (Un t a)
+nodeAnswer B ent cls i r (Bin t a b) = coreAnswer B i r (Bin t a b)
+nodeAnswer B ent cls i r (Extract h l a) = coreAnswer B i r (Extract h l a)
+nodeAnswer B ent cls i r (Extend t a n) = coreAnswer B i r (Extend t a n)
+nodeAnswer B ent cls i r (Ite c t e) = coreAnswer B i r (Ite c t e)
+nodeAnswer B ent cls i r (Select a j s k) = matched (endGood (B .map) (B .reads) (B .target) ent cls a j (selectWalk B r j s k)) (ChainMismatch i)
+nodeAnswer B ent cls i r (Call f w s k) =
+    matched (callMatches (B .eside) (B .map) (B .calls) (B .cargs) (B .target) ent cls f w s k r) (CallMismatch i)
+nodeAnswer B ent cls i r Unknown = NodeMismatch i
 
 -- "A row mapped to MAX is skipped"; 4: mapped past the target
-unfoldable pub rowAnswer : List ℕ → List ℕ → List ℕ → List ℕ → List ℕ → List ℕ → List ℕ → List ℕ → List ℕ → List ℕ → List ℕ → ℕ → Answer
-rowAnswer source ebits eside map reads calls cargs target tbits ent cls i =
-    let r = mapAt map i in
+unfoldable pub rowAnswer : Binding → List ℕ → List ℕ → ℕ → Answer
+rowAnswer B ent cls i =
+    let r = mapAt (B .map) i in
     cond (eqb r MAX) Accepted
-    (cond (ltb r (rowCount Target target))
-    (nodeAnswer source ebits eside map reads calls cargs target tbits ent cls i r (nodeOf (rowAt Source source i)))
-    (MapOutOfRange i))
+    (cond (ltb r (rowCount Target (B .target))) (nodeAnswer B ent cls i r (nodeOf (rowAt Source (B .source) i))) (MapOutOfRange i))
 
 -- the classes after a walk: the read variable "becomes 4"
 abbrev pub endClasses : List ℕ → Walk → List ℕ
@@ -119,39 +123,33 @@ endClasses cls (Met r v) = cls
 endClasses cls Lost = cls
 
 -- the classes after a row with image r: a variable's "becomes class 1", a call's "becomes 5"
-abbrev pub nodeClasses : List ℕ → List ℕ → List ℕ → List ℕ → List ℕ → List ℕ → ℕ → Node → List ℕ
-nodeClasses source ebits eside map target cls r (Var w) = set cls r 1
-nodeClasses source ebits eside map target cls r (Select a j s k) = endClasses cls (walk source ebits eside map target j k s r)
-nodeClasses source ebits eside map target cls r (Call f w s k) = set cls r 5
-nodeClasses source ebits eside map target cls r (Const s w) = cls
-nodeClasses source ebits eside map target cls r (Un t a) = cls
-nodeClasses source ebits eside map target cls r (Bin t a b) = cls
-nodeClasses source ebits eside map target cls r (Extract h l a) = cls
-nodeClasses source ebits eside map target cls r (Extend t a n) = cls
-nodeClasses source ebits eside map target cls r (Ite c t e) = cls
-nodeClasses source ebits eside map target cls r Unknown = cls
+abbrev pub nodeClasses : Binding → List ℕ → ℕ → Node → List ℕ
+nodeClasses B cls r (Var w) = set cls r 1
+nodeClasses B cls r (Const s w) = cls
+nodeClasses B cls r (Un t a) = cls
+nodeClasses B cls r (Bin t a b) = cls
+nodeClasses B cls r (Extract h l a) = cls
+nodeClasses B cls r (Extend t a n) = cls
+nodeClasses B cls r (Ite c t e) = cls
+nodeClasses B cls r (Select a j s k) = endClasses cls (selectWalk B r j s k)
+nodeClasses B cls r (Call f w s k) = set cls r 5
+nodeClasses B cls r Unknown = cls
 
-unfoldable pub rowClasses : List ℕ → List ℕ → List ℕ → List ℕ → List ℕ → ℕ → List ℕ → List ℕ
-rowClasses source ebits eside map target i cls =
-    cond (eqb (mapAt map i) MAX) cls (nodeClasses source ebits eside map target cls (mapAt map i) (nodeOf (rowAt Source source i)))
+unfoldable pub rowClasses : Binding → ℕ → List ℕ → List ℕ
+rowClasses B i cls = cond (eqb (mapAt (B .map) i) MAX) cls (nodeClasses B cls (mapAt (B .map) i) (nodeOf (rowAt Source (B .source) i)))
 
--- "Rows go in order": the classes before row n
-abbrev pub classesTo : List ℕ → List ℕ → List ℕ → List ℕ → List ℕ → List ℕ → ℕ → List ℕ
-classesTo source ebits eside map target cls n = trace (rowClasses source ebits eside map target) cls n
+-- "Rows go in order": the classes before row n, where cls are those before the rows
+abbrev pub classesTo : Binding → List ℕ → ℕ → List ℕ
+classesTo B cls n = trace (rowClasses B) cls n
 
--- the first row that is refused, or the number of rows; cls are the classes before the rows
-abbrev pub refusedRow : List ℕ → List ℕ → List ℕ → List ℕ → List ℕ → List ℕ → List ℕ → List ℕ → List ℕ → List ℕ → List ℕ → ℕ
-refusedRow source ebits eside map reads calls cargs target tbits ent cls =
-    first (λ i. not (isAccepted (rowAnswer source ebits eside map reads calls cargs target tbits ent (classesTo source ebits eside map target cls i) i)))
-    (rowCount Source source)
+-- the first row that is refused, or the number of rows
+abbrev pub refusedRow : Binding → List ℕ → List ℕ → ℕ
+refusedRow B ent cls = first (λ i. not (isAccepted (rowAnswer B ent (classesTo B cls i) i))) (rowCount Source (B .source))
 
 -- the answer of all rows: the first refusal
-abbrev pub allRowsAnswer : List ℕ → List ℕ → List ℕ → List ℕ → List ℕ → List ℕ → List ℕ → List ℕ → List ℕ → List ℕ → List ℕ → Answer
-allRowsAnswer source ebits eside map reads calls cargs target tbits ent cls =
-    let i = refusedRow source ebits eside map reads calls cargs target tbits ent cls in
-    cond (ltb i (rowCount Source source))
-    (rowAnswer source ebits eside map reads calls cargs target tbits ent (classesTo source ebits eside map target cls i) i)
-    Accepted
+abbrev pub allRowsAnswer : Binding → List ℕ → List ℕ → Answer
+allRowsAnswer B ent cls =
+    let i = refusedRow B ent cls in cond (ltb i (rowCount Source (B .source))) (rowAnswer B ent (classesTo B cls i) i) Accepted
 
 -- "Afterwards no class may be 2 or 3": the first variable of such a class, or the number of rows
 abbrev pub deadEntry : List ℕ → ℕ → ℕ

@@ -13,27 +13,28 @@ use Rattle.lists.specs.Trace.{trace}
 use Rattle.lists.proofs.First.{first-at, first-past}
 use Rattle.rows.specs.declared.Graph.the-variants.{Source}
 use Rattle.rows.specs.Row.{rowCount}
+use Rattle.lowering.specs.Lowering.{Binding}
 use Rattle.lowering.specs.Matching.{rowAnswer, rowClasses, classesTo, refusedRow, allRowsAnswer}
 
-module _ (source ebits eside map reads calls cargs target tbits ent cls : List ℕ) where
+module _ (B : Binding) (ent cls : List ℕ) where
   -- the classes before row i, its answer, and whether it is refused
   abbrev pub before : ℕ → List ℕ
-  before i = classesTo source ebits eside map target cls i
+  before i = classesTo B cls i
 
   abbrev answer : ℕ → Answer
-  answer i = rowAnswer source ebits eside map reads calls cargs target tbits ent (before i) i
+  answer i = rowAnswer B ent (before i) i
 
   abbrev pub refused : ℕ → Bool
   refused i = not (isAccepted (answer i))
 
   abbrev count : ℕ
-  count = rowCount Source source
+  count = rowCount Source (B .source)
 
   abbrev pub stop : ℕ
-  stop = refusedRow source ebits eside map reads calls cargs target tbits ent cls
+  stop = refusedRow B ent cls
 
   abbrev pub whole : Answer
-  whole = allRowsAnswer source ebits eside map reads calls cargs target tbits ent cls
+  whole = allRowsAnswer B ent cls
 
   pub rows-start : cls ≡ before 0
   unfolding trace
@@ -41,8 +42,8 @@ module _ (source ebits eside map reads calls cargs target tbits ent cls : List �
 
   -- a search that has come to row i, where old are the classes and new those after the row, with answer a
   module _ (i : ℕ) (old : List ℕ) (passed : (j : ℕ) → j < i → refused j ≡ false) (o : old ≡ before i) where
-    module _ (a : Answer) (new : List ℕ) (h : i < count) (m : a ≡ rowAnswer source ebits eside map reads calls cargs target tbits ent old i)
-        (n : new ≡ cond (isAccepted a) (rowClasses source ebits eside map target i old) old) where
+    module _ (a : Answer) (new : List ℕ) (h : i < count) (m : a ≡ rowAnswer B ent old i)
+        (n : new ≡ cond (isAccepted a) (rowClasses B i old) old) where
       here : a ≡ answer i
       here = m ∙ rw o
 

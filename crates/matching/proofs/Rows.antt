@@ -17,9 +17,9 @@ use Rattle.rows.specs.Row.{rowAt}
 use Rattle.rows.specs.Tags.{tVar, tConst, tExtract, tIte, tSelect, tCall, isUn, isExtend}
 use Rattle.rows.specs.Node.{nodeFrom, nodeOf}
 use Rattle.wf.specs.Promise.{RowFormed, Follows, PairFormed, ArgFormed}
-use Rattle.lowering.specs.declared.Walk.{Walk}
+use Rattle.lowering.specs.Lowering.{Binding}
 use Rattle.lowering.specs.Images.{sameConst}
-use Rattle.lowering.specs.Matching.{walk, endGood, endClasses, callMatches, varMatches, nodeMatches, matched, nodeAnswer, nodeClasses}
+use Rattle.lowering.specs.Matching.{selectWalk, endGood, endClasses, callMatches, varMatches, nodeMatches, matched, nodeAnswer, nodeClasses}
 
 -- a node that is matched by its mapped row
 abbrev pub Plain : Node → Type 0
@@ -76,44 +76,40 @@ module _ (nbits : ℕ) (side : List ℕ) (width : ℕ → ℕ) (i : ℕ) (e : Li
       plain-from nbits side width i (width i) (getD e 0 0) (getD e 1 0) (getD e 2 0) (getD e 3 0) (getD e 4 0) n0 n1 n37 n38 (formed .follows)
 
 -- the answer and the classes of a row, by its tag word
-module _ (source ebits eside map reads calls cargs target tbits ent cls : List ℕ) (i r : ℕ) (e : List ℕ) where
+module _ (B : Binding) (ent cls : List ℕ) (i r : ℕ) (e : List ℕ) where
   abbrev answer : Node → Answer
-  answer node = nodeAnswer source ebits eside map reads calls cargs target tbits ent cls i r node
+  answer node = nodeAnswer B ent cls i r node
 
   abbrev classes : Node → List ℕ
-  classes node = nodeClasses source ebits eside map target cls r node
+  classes node = nodeClasses B cls r node
 
-  pub var-answer : getD e 0 0 ≡ tVar → answer (nodeOf e) ≡ matched (varMatches target cls (getD e 1 0) r) (VarClass i)
+  pub var-answer : getD e 0 0 ≡ tVar → answer (nodeOf e) ≡ matched (varMatches (B .target) cls (getD e 1 0) r) (VarClass i)
   var-answer h = rw h
 
   pub var-classes : getD e 0 0 ≡ tVar → classes (nodeOf e) ≡ set cls r 1
   var-classes h = rw h
 
-  pub const-answer : getD e 0 0 ≡ tConst → answer (nodeOf e) ≡ matched (sameConst ebits (rowAt Source source i) tbits (rowAt Target target r)) (ConstMismatch i)
+  pub const-answer : getD e 0 0 ≡ tConst → answer (nodeOf e) ≡ matched (sameConst (B .ebits) (rowAt Source (B .source) i) (B .tbits) (rowAt Target (B .target) r)) (ConstMismatch i)
   const-answer h = rw h
 
   pub const-classes : getD e 0 0 ≡ tConst → classes (nodeOf e) ≡ cls
   const-classes h = rw h
 
-  -- the walk of a Select's row
-  abbrev pub selectWalk : ℕ → ℕ → ℕ → Walk
-  selectWalk j s k = walk source ebits eside map target j k s r
-
   pub select-answer : getD e 0 0 ≡ tSelect
-      → answer (nodeOf e) ≡ matched (endGood map reads target ent cls (getD e 1 0) (getD e 2 0) (selectWalk (getD e 2 0) (getD e 3 0) (getD e 4 0))) (ChainMismatch i)
+      → answer (nodeOf e) ≡ matched (endGood (B .map) (B .reads) (B .target) ent cls (getD e 1 0) (getD e 2 0) (selectWalk B r (getD e 2 0) (getD e 3 0) (getD e 4 0))) (ChainMismatch i)
   select-answer h = rw h
 
-  pub select-classes : getD e 0 0 ≡ tSelect → classes (nodeOf e) ≡ endClasses cls (selectWalk (getD e 2 0) (getD e 3 0) (getD e 4 0))
+  pub select-classes : getD e 0 0 ≡ tSelect → classes (nodeOf e) ≡ endClasses cls (selectWalk B r (getD e 2 0) (getD e 3 0) (getD e 4 0))
   select-classes h = rw h
 
   pub call-answer : getD e 0 0 ≡ tCall
-      → answer (nodeOf e) ≡ matched (callMatches eside map calls cargs target ent cls (getD e 1 0) (getD e 2 0) (getD e 3 0) (getD e 4 0) r) (CallMismatch i)
+      → answer (nodeOf e) ≡ matched (callMatches (B .eside) (B .map) (B .calls) (B .cargs) (B .target) ent cls (getD e 1 0) (getD e 2 0) (getD e 3 0) (getD e 4 0) r) (CallMismatch i)
   call-answer h = rw h
 
   pub call-classes : getD e 0 0 ≡ tCall → classes (nodeOf e) ≡ set cls r 5
   call-classes h = rw h
 
-  plain-node-answer : (node : Node) → Plain node → answer node ≡ matched (nodeMatches map target node r) (NodeMismatch i)
+  plain-node-answer : (node : Node) → Plain node → answer node ≡ matched (nodeMatches (B .map) (B .target) node r) (NodeMismatch i)
   plain-node-answer (Un t a) p = refl
   plain-node-answer (Bin t a b) p = refl
   plain-node-answer (Extract h l a) p = refl
@@ -137,7 +133,7 @@ module _ (source ebits eside map reads calls cargs target tbits ent cls : List �
   plain-node-classes (Call f w s k) p = absurd p
   plain-node-classes Unknown p = absurd p
 
-  pub plain-answer : Plain (nodeOf e) → answer (nodeOf e) ≡ matched (nodeMatches map target (nodeOf e) r) (NodeMismatch i)
+  pub plain-answer : Plain (nodeOf e) → answer (nodeOf e) ≡ matched (nodeMatches (B .map) (B .target) (nodeOf e) r) (NodeMismatch i)
   plain-answer p = plain-node-answer (nodeOf e) p
 
   pub plain-classes : Plain (nodeOf e) → classes (nodeOf e) ≡ cls

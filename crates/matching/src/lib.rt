@@ -6,6 +6,7 @@ ghost use lib.ListN.{length, set};
 ghost use Rattle.answers.specs.declared.Answer.{Answer};
 ghost use Rattle.answers.specs.Answer.{isAccepted};
 ghost use Rattle.images.specs.Bits.{BitsWithin, ConstsWithin};
+ghost use Rattle.lowering.specs.Lowering.{binding};
 ghost use Rattle.lowering.specs.Images.{sameConst};
 ghost use Rattle.lowering.specs.Matching.{varMatches, nodeMatches, matched, nodeAnswer, nodeClasses, rowAnswer, rowClasses};
 ghost use Rattle.lowering.specs.Matching.{classesTo, refusedRow, allRowsAnswer, deadEntry};
@@ -106,11 +107,11 @@ fn row_corr(
     requires { ⌜ Formed (now source) (now ebits) (now eside) (now target) (now tbits) ⌝ }
     requires { ⌜ (length (now ent) ≡ rowCount Graph.Target (now target)) × (length (now cls) ≡ rowCount Graph.Target (now target)) ⌝ }
     requires { ⌜ (i < rowCount Graph.Source (now source)) × (r < rowCount Graph.Target (now target)) ⌝ }
-    ensures answer { λ a. ⌜ a ≡ nodeAnswer (now (source .entry)) (now (ebits .entry)) (now (eside .entry)) (now (map .entry)) (now (reads .entry))
-        (now (calls .entry)) (now (cargs .entry)) (now (target .entry)) (now (tbits .entry)) (now (ent .entry)) (now (cls .entry)) i r
+    ensures answer { λ a. ⌜ a ≡ nodeAnswer (binding (now (source .entry)) (now (ebits .entry)) (now (eside .entry)) (now (map .entry))
+        (now (reads .entry)) (now (calls .entry)) (now (cargs .entry)) (now (target .entry)) (now (tbits .entry))) (now (ent .entry)) (now (cls .entry)) i r
         (nodeOf (rowAt Graph.Source (now (source .entry)) i)) ⌝ }
-    ensures list { λ a. ⌜ now (cls .exit) ≡ cond (isAccepted a)
-        (nodeClasses (now (source .entry)) (now (ebits .entry)) (now (eside .entry)) (now (map .entry)) (now (target .entry)) (now (cls .entry)) r
+    ensures list { λ a. ⌜ now (cls .exit) ≡ cond (isAccepted a) (nodeClasses (binding (now (source .entry)) (now (ebits .entry)) (now (eside .entry)) (now (map .entry))
+        (now (reads .entry)) (now (calls .entry)) (now (cargs .entry)) (now (target .entry)) (now (tbits .entry))) (now (cls .entry)) r
         (nodeOf (rowAt Graph.Source (now (source .entry)) i))) (now (cls .entry)) ⌝ }
 {
     let e = rows::row(Graph::Source, source, i);
@@ -151,10 +152,10 @@ fn ext_step(
     requires { ⌜ Formed (now source) (now ebits) (now eside) (now target) (now tbits) ⌝ }
     requires { ⌜ (length (now ent) ≡ rowCount Graph.Target (now target)) × (length (now cls) ≡ rowCount Graph.Target (now target)) ⌝ }
     requires { ⌜ i < rowCount Graph.Source (now source) ⌝ }
-    ensures answer { λ a. ⌜ a ≡ rowAnswer (now (source .entry)) (now (ebits .entry)) (now (eside .entry)) (now (map .entry)) (now (reads .entry))
-        (now (calls .entry)) (now (cargs .entry)) (now (target .entry)) (now (tbits .entry)) (now (ent .entry)) (now (cls .entry)) i ⌝ }
-    ensures list { λ a. ⌜ now (cls .exit) ≡ cond (isAccepted a)
-        (rowClasses (now (source .entry)) (now (ebits .entry)) (now (eside .entry)) (now (map .entry)) (now (target .entry)) i (now (cls .entry)))
+    ensures answer { λ a. ⌜ a ≡ rowAnswer (binding (now (source .entry)) (now (ebits .entry)) (now (eside .entry)) (now (map .entry))
+        (now (reads .entry)) (now (calls .entry)) (now (cargs .entry)) (now (target .entry)) (now (tbits .entry))) (now (ent .entry)) (now (cls .entry)) i ⌝ }
+    ensures list { λ a. ⌜ now (cls .exit) ≡ cond (isAccepted a) (rowClasses (binding (now (source .entry)) (now (ebits .entry)) (now (eside .entry)) (now (map .entry))
+        (now (reads .entry)) (now (calls .entry)) (now (cargs .entry)) (now (target .entry)) (now (tbits .entry))) i (now (cls .entry)))
         (now (cls .entry)) ⌝ }
 {
     let r = images::map_at(map, i as u64);
@@ -197,12 +198,12 @@ pub fn ext_rows(
 ) -> Answer
     requires { ⌜ Formed (now source) (now ebits) (now eside) (now target) (now tbits) ⌝ }
     requires { ⌜ (length (now ent) ≡ rowCount Graph.Target (now target)) × (length (now cls) ≡ rowCount Graph.Target (now target)) ⌝ }
-    ensures answer { λ a. ⌜ a ≡ allRowsAnswer (now (source .entry)) (now (ebits .entry)) (now (eside .entry)) (now (map .entry)) (now (reads .entry))
-        (now (calls .entry)) (now (cargs .entry)) (now (target .entry)) (now (tbits .entry)) (now (ent .entry)) (now (cls .entry)) ⌝ }
-    ensures list { λ a. ⌜ now (cls .exit) ≡ classesTo (now (source .entry)) (now (ebits .entry)) (now (eside .entry)) (now (map .entry))
-        (now (target .entry)) (now (cls .entry)) (refusedRow (now (source .entry)) (now (ebits .entry)) (now (eside .entry)) (now (map .entry))
-        (now (reads .entry)) (now (calls .entry)) (now (cargs .entry)) (now (target .entry)) (now (tbits .entry)) (now (ent .entry))
-        (now (cls .entry))) ⌝ }
+    ensures answer { λ a. ⌜ a ≡ allRowsAnswer (binding (now (source .entry)) (now (ebits .entry)) (now (eside .entry)) (now (map .entry))
+        (now (reads .entry)) (now (calls .entry)) (now (cargs .entry)) (now (target .entry)) (now (tbits .entry))) (now (ent .entry)) (now (cls .entry)) ⌝ }
+    ensures list { λ a. ⌜ now (cls .exit) ≡ classesTo (binding (now (source .entry)) (now (ebits .entry)) (now (eside .entry)) (now (map .entry))
+        (now (reads .entry)) (now (calls .entry)) (now (cargs .entry)) (now (target .entry)) (now (tbits .entry))) (now (cls .entry))
+        (refusedRow (binding (now (source .entry)) (now (ebits .entry)) (now (eside .entry)) (now (map .entry))
+        (now (reads .entry)) (now (calls .entry)) (now (cargs .entry)) (now (target .entry)) (now (tbits .entry))) (now (ent .entry)) (now (cls .entry))) ⌝ }
 {
     let n = rows::row_count(Graph::Source, source);
     let mut i = 0;

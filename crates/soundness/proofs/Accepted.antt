@@ -7,7 +7,7 @@ use Rattle.wf.specs.Rule.{cellWidth}
 use Rattle.value.specs.Graph.{Assigns}
 use Rattle.meaning.specs.Meaning.{Interpretation, OfKind}
 use Rattle.lowering.specs.Images.{MAX}
-use Rattle.lowering.specs.Check.{Lowering, targetRows}
+use Rattle.lowering.specs.Lowering.{Lowering, targetRows}
 use Rattle.soundness.specs.Sound.{ImagesAgree, SourceTrue, TargetTrue}
 use Rattle.soundness.specs.Transfer.{assignment, interpretation}
 use Rattle.soundness.specs.Passed.{Passed}

@@ -30,7 +30,8 @@ use Rattle.lowering.specs.declared.Walk.{Walk}
 use Rattle.lowering.specs.declared.Walk.the-variants.{Met, Lost}
 use Rattle.lowering.specs.Images.{fieldAt, bothConst, sameConst}
 use Rattle.lowering.specs.Matching.{isLevel, walk}
-use Rattle.lowering.specs.Check.{Lowering, sourceRows, targetRows, widthsOfSource}
+use Rattle.lowering.specs.Lowering.{Lowering, sourceRows, targetRows}
+use Rattle.lowering.specs.Check.{widthsOfSource}
 use Rattle.lowering.proofs.Images.{const-row, both-const}
 use Rattle.soundness.proofs.Facts.{S, T, m, Mapped, Formed, SameCore, ReadOf, CallOf, Ends, walkOf, Found, Matched}
 use Rattle.soundness.proofs.Images.{eq-row, ite-row, same-const}

@@ -25,7 +25,7 @@ use Rattle.value.proofs.Tagged.{node-var}
 use Rattle.meaning.specs.Meaning.{Interpretation, OfKind, RootsTrue, sourceValue}
 use Rattle.lowering.specs.Images.{fieldAt, unequalConst}
 use Rattle.lowering.specs.Tables.{readCount, readVar, readArray, readIndex, callCount, callVar, callFunction, argCount, callArg, sameFunction}
-use Rattle.lowering.specs.Check.{Lowering, sourceRows, targetRows}
+use Rattle.lowering.specs.Lowering.{Lowering, sourceRows, targetRows}
 use Rattle.lowering.proofs.Images.{const-row, both-const}
 use Rattle.soundness.specs.Transfer.{sameVal, sameVals, readHit, callHit, readAt, callAt, interpretation}
 use Rattle.soundness.proofs.Facts.{S, m, Formed, ReadCong, CallCong, Matched, rootOf}

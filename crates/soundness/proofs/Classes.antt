@@ -24,7 +24,8 @@ use Rattle.lowering.specs.declared.Walk.{Walk}
 use Rattle.lowering.specs.declared.Walk.the-variants.{RanOut, Met, Lost}
 use Rattle.lowering.specs.Images.{MAX}
 use Rattle.lowering.specs.Matching.{endGood, callMatches, varMatches, matched, nodeAnswer, rowAnswer, endClasses, nodeClasses, rowClasses}
-use Rattle.lowering.specs.Check.{Lowering, targetRows, classesOfTables, classes, offsets}
+use Rattle.lowering.specs.Lowering.{Lowering, bindingOf, targetRows}
+use Rattle.lowering.specs.Check.{classesOfTables, classes, offsets}
 use Rattle.lowering.proofs.Classes.{classes-keep-length}
 use Rattle.soundness.proofs.Facts.{S, T, m, Mapped, Formed, walkOf}
 use Rattle.soundness.specs.Passed.{Reached, Passed}
@@ -104,10 +105,10 @@ module _ (L : Lowering) where
   -- the answer and the classes of a node at row i
   abbrev pub answerAt : ℕ → Node → Answer
   answerAt i node =
-      nodeAnswer (L .source) (L .ebits) (L .eside) (L .map) (L .reads) (L .calls) (L .cargs) (L .target) (L .tbits) (offsets L) (classes L i) i (m L i) node
+      nodeAnswer (bindingOf L) (offsets L) (classes L i) i (m L i) node
 
   abbrev pub classesAt : ℕ → Node → List ℕ
-  classesAt i node = nodeClasses (L .source) (L .ebits) (L .eside) (L .map) (L .target) (classes L i) (m L i) node
+  classesAt i node = nodeClasses (bindingOf L) (classes L i) (m L i) node
 
   -- what the tests of a variable, of a walk that ran out and of a call say
   pub var-passed : (i w : ℕ) → isAccepted (answerAt i (Var w)) ≡ true → (T L (m L i) ≡ Var w) × (getD (classes L i) (m L i) 0 ≡ 0)

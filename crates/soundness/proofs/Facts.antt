@@ -21,7 +21,8 @@ use Rattle.lowering.specs.Images.{mapAt, unequalConst}
 use Rattle.lowering.specs.Tables.{readCount, readVar, readArray, readIndex, callCount, callVar, callFunction, argCount, callArg, sameFunction}
 use Rattle.lowering.specs.Matching.{walk}
 use Rattle.lowering.specs.Roots.{congruent}
-use Rattle.lowering.specs.Check.{Lowering, sourceRows, targetRows, widthsOfSource, widthsOfTarget}
+use Rattle.lowering.specs.Lowering.{Lowering, sourceRows, targetRows}
+use Rattle.lowering.specs.Check.{widthsOfSource, widthsOfTarget}
 
 -- whose a target variable is: a source variable's image, a read entry's, a call entry's
 pub data Owner : Type 0 where

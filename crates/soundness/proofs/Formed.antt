@@ -5,7 +5,7 @@ use Rattle.rows.specs.declared.Graph.the-variants.{Source, Target}
 use Rattle.rows.proofs.Encoding.{clean}
 use Rattle.value.proofs.Tagged.{core-rows}
 use Rattle.wf.proofs.Promise.{well-formed}
-use Rattle.lowering.specs.Check.{Lowering}
+use Rattle.lowering.specs.Lowering.{Lowering}
 use Rattle.soundness.proofs.Facts.{Formed}
 use Rattle.soundness.specs.Passed.{Passed}
 

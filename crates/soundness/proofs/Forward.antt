@@ -23,7 +23,7 @@ use Rattle.value.proofs.Tagged.{node-var}
 use Rattle.meaning.specs.Meaning.{Interpretation, OfKind, RootsTrue, sourceValue}
 use Rattle.lowering.specs.Images.{mapAt, fieldAt}
 use Rattle.lowering.specs.Tables.{readCount, readVar, readArray, readIndex, callCount, callVar, callFunction, argCount, callArg, sameFunction}
-use Rattle.lowering.specs.Check.{Lowering, sourceRows}
+use Rattle.lowering.specs.Lowering.{Lowering, sourceRows}
 use Rattle.soundness.specs.Transfer.{origin, isOrigin, varOrigin, readOf, callOf, originValue, readCell, callResult, assignment}
 use Rattle.soundness.proofs.Facts.{S, T, m, Mapped, Formed, Owner, by-var, by-read, by-call, ReadPair, CallPair, Matched, rootOf}
 use Rattle.soundness.proofs.Images.{var-row}

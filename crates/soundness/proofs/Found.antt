@@ -22,7 +22,8 @@ use Rattle.lowering.specs.declared.Walk.{Walk}
 use Rattle.lowering.specs.declared.Walk.the-variants.{RanOut, Met, Lost}
 use Rattle.lowering.specs.Images.{MAX, mapNode}
 use Rattle.lowering.specs.Matching.{endGood, nodeMatches}
-use Rattle.lowering.specs.Check.{Lowering, sourceRows, targetRows, offsets}
+use Rattle.lowering.specs.Lowering.{Lowering, sourceRows, targetRows}
+use Rattle.lowering.specs.Check.{offsets}
 use Rattle.soundness.proofs.Facts.{S, T, m, Mapped, Formed, SameCore, CallOf, Ends, walkOf, Found}
 use Rattle.soundness.specs.Passed.{Passed}
 use Rattle.soundness.proofs.Images.{row-is, map-good, same-const}

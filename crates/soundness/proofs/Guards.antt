@@ -20,7 +20,8 @@ use Rattle.lowering.specs.declared.Walk.{Walk}
 use Rattle.lowering.specs.declared.Walk.the-variants.{RanOut, Met, Lost}
 use Rattle.lowering.specs.Images.{rowIs}
 use Rattle.lowering.specs.Matching.{endGood, callMatches}
-use Rattle.lowering.specs.Check.{Lowering, sourceRows, targetRows, classes, offsets, answerOf, mismatch}
+use Rattle.lowering.specs.Lowering.{Lowering, sourceRows, targetRows}
+use Rattle.lowering.specs.Check.{classes, offsets, answerOf, mismatch}
 use Rattle.soundness.specs.Passed.{Reached}
 use Rattle.soundness.specs.Guards.{endBare, callBare}
 use Rattle.soundness.proofs.Facts.{m}

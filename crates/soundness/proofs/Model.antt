@@ -20,7 +20,8 @@ use Rattle.lowering.specs.Images.{rowIs, bothConst, sameConst, unequalConst}
 use Rattle.lowering.specs.Tables.{sameRead, sameFunction, sameCall, readGood, callGood}
 use Rattle.lowering.specs.Matching.{isEq, isLevel, walk, endGood, callMatches, varMatches, nodeMatches, rowAnswer, rowClasses}
 use Rattle.lowering.specs.Roots.{leads, pairsWith, pairs, readsNeed, allEqual, congruent, rootAt}
-use Rattle.lowering.specs.Check.{Lowering, lowering, firstRefusal}
+use Rattle.lowering.specs.Lowering.{Lowering, lowering}
+use Rattle.lowering.specs.Check.{firstRefusal}
 use Rattle.soundness.specs.Sound.{Accepts, SourceTrue, TargetTrue, SourceIsSatisfiable}
 use Rattle.soundness.specs.Transfer.{readHit, interpretation}
 use Rattle.soundness.proofs.Accepted.{zero-interpretation, zero-fits}

@@ -18,7 +18,8 @@ use Rattle.lowering.specs.declared.Walk.the-variants.{RanOut, Met, Lost}
 use Rattle.lowering.specs.Images.{MAX}
 use Rattle.lowering.specs.Tables.{readCount, readVar, readIndex, callCount, callVar, argCount, callArg}
 use Rattle.lowering.specs.Matching.{rowClasses}
-use Rattle.lowering.specs.Check.{Lowering, sourceRows, targetRows, widthsOfSource, classesOfTables, classes, offsets}
+use Rattle.lowering.specs.Lowering.{Lowering, sourceRows, targetRows}
+use Rattle.lowering.specs.Check.{widthsOfSource, classesOfTables, classes, offsets}
 use Rattle.soundness.proofs.Facts.{S, m, Mapped, Image, Formed, Ends, walkOf, Found, ReadEntry, CallEntry, Owner, by-var, by-read, by-call, Owns}
 use Rattle.soundness.specs.Passed.{Passed}
 use Rattle.soundness.proofs.Marks.{in-no-order}

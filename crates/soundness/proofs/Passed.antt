@@ -9,7 +9,8 @@ use lib.ListN.{length}
 use Rattle.answers.specs.declared.Answer.{Answer}
 use Rattle.answers.specs.Answer.{isAccepted}
 use Rattle.lists.proofs.Choice.{no-way}
-use Rattle.lowering.specs.Check.{Lowering, sourceRows, sourceIll, targetIll, answerOf, firstRefusal, countAnswers, graphAnswers, matchAnswers}
+use Rattle.lowering.specs.Lowering.{Lowering, sourceRows}
+use Rattle.lowering.specs.Check.{sourceIll, targetIll, answerOf, firstRefusal, countAnswers, graphAnswers, matchAnswers}
 use Rattle.lowering.proofs.Inversion.{not-refused, all-fail, all-pass, first-refused}
 use Rattle.soundness.specs.Sound.{Accepts}
 use Rattle.soundness.specs.Passed.{Passed}

@@ -28,7 +28,8 @@ use Rattle.lowering.specs.declared.Walk.the-variants.{Met, Lost}
 use Rattle.lowering.specs.Images.{MAX, fieldAt, bothConst, sameConst}
 use Rattle.lowering.specs.Tables.{readIndex, argCount, callArg}
 use Rattle.lowering.specs.Matching.{isLevel, walk}
-use Rattle.lowering.specs.Check.{Lowering, sourceRows, targetRows, widthsOfSource}
+use Rattle.lowering.specs.Lowering.{Lowering, sourceRows, targetRows}
+use Rattle.lowering.specs.Check.{widthsOfSource}
 use Rattle.soundness.proofs.Facts.{S, T, m, Mapped, Formed, SameCore, Ends, walkOf, Found, Owner, by-var, by-read, by-call, Owns, Matched}
 use Rattle.soundness.specs.Passed.{Passed}
 use Rattle.soundness.proofs.Images.{eq-row, ite-row}

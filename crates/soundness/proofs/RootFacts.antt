@@ -20,7 +20,8 @@ use Rattle.lowering.specs.Images.{MAX, unequalConst}
 use Rattle.lowering.specs.Tables.{readCount, readArray, readIndex, callCount, sameFunction}
 use Rattle.lowering.specs.Matching.{rowAnswer}
 use Rattle.lowering.specs.Roots.{Pair, pair, pairs, leads, readsNeed, rootAt, readRoot, callRoot}
-use Rattle.lowering.specs.Check.{Lowering, sourceRows, targetRows, callRoots}
+use Rattle.lowering.specs.Lowering.{Lowering, sourceRows, targetRows}
+use Rattle.lowering.specs.Check.{callRoots}
 use Rattle.soundness.proofs.Facts.{m, Mapped, ReadCong, CallCong, ReadPair, CallPair, rootOf}
 use Rattle.soundness.proofs.Pairs.{At, Needed, pairs-has, pairs-only}
 use Rattle.soundness.specs.Passed.{Passed}

@@ -19,7 +19,8 @@ use Rattle.wf.specs.Rule.{indexWidth, cellWidth, hasWidth}
 use Rattle.wf.specs.Widths.{rowWidth}
 use Rattle.lowering.specs.Images.{fieldAt}
 use Rattle.lowering.specs.Tables.{readCount, readVar, readArray, readIndex, callCount, callVar, callStart, argCount, callArg, readGood, callGood, readClasses, callClasses, readOffsets}
-use Rattle.lowering.specs.Check.{Lowering, targetRows, widthsOfTarget, noClasses, classesOfReads, classesOfTables, offsets}
+use Rattle.lowering.specs.Lowering.{Lowering, targetRows}
+use Rattle.lowering.specs.Check.{widthsOfTarget, noClasses, classesOfReads, classesOfTables, offsets}
 use Rattle.lowering.proofs.Marks.{marks-length}
 use Rattle.soundness.proofs.Facts.{T}
 use Rattle.soundness.specs.Passed.{Reached}

@@ -23,7 +23,8 @@ use Rattle.value.proofs.Formed.{value-formed}
 use Rattle.lowering.specs.Images.{fieldAt}
 use Rattle.lowering.specs.Matching.{isEq}
 use Rattle.lowering.specs.Roots.{allEqual, congruent}
-use Rattle.lowering.specs.Check.{Lowering, targetRows, widthsOfTarget}
+use Rattle.lowering.specs.Lowering.{Lowering, targetRows}
+use Rattle.lowering.specs.Check.{widthsOfTarget}
 use Rattle.soundness.proofs.Facts.{T, Formed}
 use Rattle.soundness.proofs.Images.{eq-row, and-row, or-row, not-row}
 use Rattle.meaning.proofs.Values.{target-value}

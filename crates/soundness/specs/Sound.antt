@@ -8,7 +8,8 @@ use Rattle.answers.specs.Answer.{isAccepted}
 use Rattle.value.specs.Graph.{value, Assigns}
 use Rattle.meaning.specs.Meaning.{Interpretation, OfKind, RootsTrue, SourceSatisfiable, TargetSatisfiable, sourceValue}
 use Rattle.lowering.specs.Images.{MAX, mapAt}
-use Rattle.lowering.specs.Check.{Lowering, sourceRows, targetRows, check}
+use Rattle.lowering.specs.Lowering.{Lowering, sourceRows, targetRows}
+use Rattle.lowering.specs.Check.{check}
 
 -- "The checker accepts when Check's number is 0"
 abbrev pub Accepts : Lowering → List ℕ → List ℕ → List ℕ → List ℕ → Type 0

@@ -16,7 +16,7 @@ use Rattle.value.specs.Graph.{value}
 use Rattle.meaning.specs.Meaning.{Interpretation, sourceValue}
 use Rattle.lowering.specs.Images.{mapAt, fieldAt}
 use Rattle.lowering.specs.Tables.{readCount, readVar, readArray, readIndex, callCount, callVar, callFunction, argCount, callArg}
-use Rattle.lowering.specs.Check.{Lowering, sourceRows, targetRows}
+use Rattle.lowering.specs.Lowering.{Lowering, sourceRows, targetRows}
 
 module _ (L : Lowering) where
   -- the first source row with image r, the first variable with image r, the entries with variable r

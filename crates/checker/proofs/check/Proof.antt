@@ -7,7 +7,7 @@ use lib.ListN.{length}
 use lib.Seq.{length-take-le}
 use Rattle.answers.specs.Answer.{isAccepted}
 use Rattle.rows.specs.declared.Graph.the-variants.{Source, Target}
-use Rattle.lowering.specs.Check.{Lowering, lowering}
+use Rattle.lowering.specs.Lowering.{Lowering, lowering}
 use Rattle.checker.proofs.Outcome.{counts, widths-front, widths-cleared, count-done, graph-done, match-done, accept-done, room-0, room-1, room-2, room-3, forms-formed, by-lists, zeros-long}
 use borrow.Author.Needs.{needs}
 use Rattle.checker.proofs.check.Statement.{statement}

@@ -7,7 +7,7 @@ use borrow.Author.Tests.{not-true, not-false}
 use Rattle.images.proofs.Constants.{bits-within}
 use Rattle.lists.proofs.Choice.{no-way}
 use Rattle.rows.specs.declared.Graph.the-variants.{Target}
-use Rattle.lowering.specs.Check.{Lowering, lowering}
+use Rattle.lowering.specs.Lowering.{Lowering, lowering}
 use Rattle.lowered.proofs.MatchLaws.{map-3, tables-done, rows-done, dead-done, roots-done, passed-tables, reads-inside, calls-inside}
 use Rattle.wf.specs.Widths.{widths}
 use borrow.Author.Needs.{needs}

@@ -5,6 +5,7 @@ use mathlib.Core.Bool.{false}
 use native.Mathlib.Nat.{not-suc-le-zero}
 use native.Mathlib.Omega.{arith}
 use lib.ListN.{length}
+use Rattle.lowering.specs.Lowering.{binding}
 use Rattle.matching.proofs.Loop.{before, refused, rows-start, rows-stop, rows-more, rows-end}
 use borrow.Author.Needs.{needs}
 use Rattle.matching.proofs.ext_rows.Statement.{statement}
@@ -12,8 +13,8 @@ use Rattle.matching.proofs.ext_rows.Tie as tie
 
 abbrev Inv-loop : tie.InvT-loop
 Inv-loop source ebits eside map reads calls cargs target tbits ent cls₀ n i₀ cls i =
-    (i ≤ n) × (length cls ≡ length cls₀) × (cls ≡ before source ebits eside map reads calls cargs target tbits ent cls₀ i) ×
-    ((j : ℕ) → j < i → refused source ebits eside map reads calls cargs target tbits ent cls₀ j ≡ false)
+    (i ≤ n) × (length cls ≡ length cls₀) × (cls ≡ before (binding source ebits eside map reads calls cargs target tbits) ent cls₀ i) ×
+    ((j : ℕ) → j < i → refused (binding source ebits eside map reads calls cargs target tbits) ent cls₀ j ≡ false)
 
 abbrev μ-loop : tie.MeasureT-loop
 μ-loop source ebits eside map reads calls cargs target tbits ent cls₀ n i₀ cls i = n - i
@@ -29,7 +30,7 @@ loop-holds : tie.Need-loop-holds Inv-loop μ-loop
 loop-holds c =
     let at-start = start c in
     let s = at-start .args in
-    (omega arith, refl, rows-start (s .source .now) (s .ebits .now) (s .eside .now) (s .map .now) (s .reads .now) (s .calls .now) (s .cargs .now) (s .target .now) (s .tbits .now) (s .ent .now) (s .cls .now), λ j h. absurd (not-suc-le-zero h))
+    (omega arith, refl, rows-start (binding (s .source .now) (s .ebits .now) (s .eside .now) (s .map .now) (s .reads .now) (s .calls .now) (s .cargs .now) (s .target .now) (s .tbits .now)) (s .ent .now) (s .cls .now), λ j h. absurd (not-suc-le-zero h))
 
 ext-step-requires : tie.Need-ext-step-requires Inv-loop μ-loop
 ext-step-requires c κs =
@@ -53,7 +54,7 @@ returns c =
     let s = at-start .args in
     let l = at-loop .loop in
     let e = c .before .before .before .before .ext-step .ensures in
-    rows-stop (s .source .now) (s .ebits .now) (s .eside .now) (s .map .now) (s .reads .now) (s .calls .now) (s .cargs .now) (s .target .now) (s .tbits .now) (s .ent .now) (s .cls .now) (l .i) (l .cls) (l .inv .3) (l .inv .2) _ _ (rw (at-row-count .row-count .ensures) at (in-loop .loop-test .taken)) (e .0) (e .1) (rw (c .before .is-accepted .ensures) at (c .if1 .taken))
+    rows-stop (binding (s .source .now) (s .ebits .now) (s .eside .now) (s .map .now) (s .reads .now) (s .calls .now) (s .cargs .now) (s .target .now) (s .tbits .now)) (s .ent .now) (s .cls .now) (l .i) (l .cls) (l .inv .3) (l .inv .2) _ _ (rw (at-row-count .row-count .ensures) at (in-loop .loop-test .taken)) (e .0) (e .1) (rw (c .before .is-accepted .ensures) at (c .if1 .taken))
 
 add-i : tie.Need-add-i Inv-loop μ-loop
 add-i c = search needs
@@ -70,7 +71,7 @@ loop-again c =
     let s = at-start .args in
     let l = at-loop .loop in
     let e = c .before .before .before .before .ext-step .ensures in
-    let more = rows-more (s .source .now) (s .ebits .now) (s .eside .now) (s .map .now) (s .reads .now) (s .calls .now) (s .cargs .now) (s .target .now) (s .tbits .now) (s .ent .now) (s .cls .now) (l .i) (l .cls) (l .inv .3) (l .inv .2) _ _ (rw (at-row-count .row-count .ensures) at (in-loop .loop-test .taken)) (e .0) (e .1) (rw (c .before .is-accepted .ensures) at (c .if1 .left)) in
+    let more = rows-more (binding (s .source .now) (s .ebits .now) (s .eside .now) (s .map .now) (s .reads .now) (s .calls .now) (s .cargs .now) (s .target .now) (s .tbits .now)) (s .ent .now) (s .cls .now) (l .i) (l .cls) (l .inv .3) (l .inv .2) _ _ (rw (at-row-count .row-count .ensures) at (in-loop .loop-test .taken)) (e .0) (e .1) (rw (c .before .is-accepted .ensures) at (c .if1 .left)) in
     let k = c .before .before .before .before .ext-step .kept in
     (omega arith, omega (arith, k), more .0, more .1)
 
@@ -84,7 +85,7 @@ returns-2 c =
     let s = at-start .args in
     let l = c .before .loop in
     let q = at-row-count .row-count .ensures in
-    rows-end (s .source .now) (s .ebits .now) (s .eside .now) (s .map .now) (s .reads .now) (s .calls .now) (s .cargs .now) (s .target .now) (s .tbits .now) (s .ent .now) (s .cls .now) (l .i) (l .cls) (l .inv .3) (l .inv .2) (rw q at (l .inv .0)) (rw q at (c .loop-test .left))
+    rows-end (binding (s .source .now) (s .ebits .now) (s .eside .now) (s .map .now) (s .reads .now) (s .calls .now) (s .cargs .now) (s .target .now) (s .tbits .now)) (s .ent .now) (s .cls .now) (l .i) (l .cls) (l .inv .3) (l .inv .2) (rw q at (l .inv .0)) (rw q at (c .loop-test .left))
 
 pub ext-rows-spec : {M : Type 1} → statement M
 ext-rows-spec =

@@ -4,6 +4,7 @@ use Rattle.answers.specs.declared.Answer.the-variants.{VarClass, ConstMismatch,
 use Rattle.lists.proofs.Choice.{cond-same}
 use Rattle.rows.specs.declared.Graph.the-variants.{Source}
 use Rattle.rows.specs.Row.{rowAt}
+use Rattle.lowering.specs.Lowering.{binding}
 use Rattle.matching.proofs.Rows.{var-answer, var-classes, const-answer, const-classes, select-answer, select-classes, call-answer, call-classes, plain-answer, plain-classes}
 use Rattle.matching.proofs.Outcome.{consts-target, const-ready, select-ready, call-ready, plain-ready, outcome}
 use borrow.Author.Needs.{needs}
@@ -63,14 +64,14 @@ returns c =
     let s = c .before .before .before .before .before .before .before .before .before .before .before .before .before .before .before .before .before .before .args in
     let q = c .before .before .before .before .before .before .row .ensures in
     let t = rw q at (c .before .before .before .before .before .match .keys1) in
-    outcome _ _ (VarClass (s .i)) _ _ _ _ _ _ refl (c .before .before .before .var-corr .ensures .0) (c .before .before .before .var-corr .ensures .1) (c .matched .ensures) (rw q (var-answer (s .source .now) (s .ebits .now) (s .eside .now) (s .map .now) (s .reads .now) (s .calls .now) (s .cargs .now) (s .target .now) (s .tbits .now) (s .ent .now) (s .cls .now) (s .i) (s .r) (rowAt Source (s .source .now) (s .i)) t)) (var-classes (s .source .now) (s .ebits .now) (s .eside .now) (s .map .now) (s .reads .now) (s .calls .now) (s .cargs .now) (s .target .now) (s .tbits .now) (s .ent .now) (s .cls .now) (s .i) (s .r) (rowAt Source (s .source .now) (s .i)) t)
+    outcome _ _ (VarClass (s .i)) _ _ _ _ _ _ refl (c .before .before .before .var-corr .ensures .0) (c .before .before .before .var-corr .ensures .1) (c .matched .ensures) (rw q (var-answer (binding (s .source .now) (s .ebits .now) (s .eside .now) (s .map .now) (s .reads .now) (s .calls .now) (s .cargs .now) (s .target .now) (s .tbits .now)) (s .ent .now) (s .cls .now) (s .i) (s .r) (rowAt Source (s .source .now) (s .i)) t)) (var-classes (binding (s .source .now) (s .ebits .now) (s .eside .now) (s .map .now) (s .reads .now) (s .calls .now) (s .cargs .now) (s .target .now) (s .tbits .now)) (s .ent .now) (s .cls .now) (s .i) (s .r) (rowAt Source (s .source .now) (s .i)) t)
 
 returns-2 : tie.Need-returns-2
 returns-2 c =
     let s = c .before .before .before .before .before .before .before .before .before .before .before .before .before .before .before .args in
     let q = c .before .before .before .row .ensures in
     let t = rw q at (c .before .before .match .keys2) in
-    outcome _ _ (ConstMismatch (s .i)) _ _ _ _ _ _ refl (c .before .const-corr .ensures) (sym (cond-same (c .before .const-corr .result) (s .cls .now))) (c .matched2 .ensures) (rw q (const-answer (s .source .now) (s .ebits .now) (s .eside .now) (s .map .now) (s .reads .now) (s .calls .now) (s .cargs .now) (s .target .now) (s .tbits .now) (s .ent .now) (s .cls .now) (s .i) (s .r) (rowAt Source (s .source .now) (s .i)) t)) (const-classes (s .source .now) (s .ebits .now) (s .eside .now) (s .map .now) (s .reads .now) (s .calls .now) (s .cargs .now) (s .target .now) (s .tbits .now) (s .ent .now) (s .cls .now) (s .i) (s .r) (rowAt Source (s .source .now) (s .i)) t)
+    outcome _ _ (ConstMismatch (s .i)) _ _ _ _ _ _ refl (c .before .const-corr .ensures) (sym (cond-same (c .before .const-corr .result) (s .cls .now))) (c .matched2 .ensures) (rw q (const-answer (binding (s .source .now) (s .ebits .now) (s .eside .now) (s .map .now) (s .reads .now) (s .calls .now) (s .cargs .now) (s .target .now) (s .tbits .now)) (s .ent .now) (s .cls .now) (s .i) (s .r) (rowAt Source (s .source .now) (s .i)) t)) (const-classes (binding (s .source .now) (s .ebits .now) (s .eside .now) (s .map .now) (s .reads .now) (s .calls .now) (s .cargs .now) (s .target .now) (s .tbits .now)) (s .ent .now) (s .cls .now) (s .i) (s .r) (rowAt Source (s .source .now) (s .i)) t)
 
 same-length-2 : tie.Need-same-length-2
 same-length-2 c = search needs
@@ -80,7 +81,7 @@ returns-3 c =
     let s = c .before .before .before .before .before .before .before .before .before .before .before .before .before .before .before .before .before .before .args in
     let q = c .before .before .before .before .before .before .row .ensures in
     let t = rw q at (c .before .before .before .before .before .match .keys3) in
-    outcome _ _ (ChainMismatch (s .i)) _ _ _ _ _ _ refl (c .before .before .before .select-corr .ensures .0) (c .before .before .before .select-corr .ensures .1) (c .matched3 .ensures) (rw q (select-answer (s .source .now) (s .ebits .now) (s .eside .now) (s .map .now) (s .reads .now) (s .calls .now) (s .cargs .now) (s .target .now) (s .tbits .now) (s .ent .now) (s .cls .now) (s .i) (s .r) (rowAt Source (s .source .now) (s .i)) t)) (rw q (select-classes (s .source .now) (s .ebits .now) (s .eside .now) (s .map .now) (s .reads .now) (s .calls .now) (s .cargs .now) (s .target .now) (s .tbits .now) (s .ent .now) (s .cls .now) (s .i) (s .r) (rowAt Source (s .source .now) (s .i)) t))
+    outcome _ _ (ChainMismatch (s .i)) _ _ _ _ _ _ refl (c .before .before .before .select-corr .ensures .0) (c .before .before .before .select-corr .ensures .1) (c .matched3 .ensures) (rw q (select-answer (binding (s .source .now) (s .ebits .now) (s .eside .now) (s .map .now) (s .reads .now) (s .calls .now) (s .cargs .now) (s .target .now) (s .tbits .now)) (s .ent .now) (s .cls .now) (s .i) (s .r) (rowAt Source (s .source .now) (s .i)) t)) (rw q (select-classes (binding (s .source .now) (s .ebits .now) (s .eside .now) (s .map .now) (s .reads .now) (s .calls .now) (s .cargs .now) (s .target .now) (s .tbits .now)) (s .ent .now) (s .cls .now) (s .i) (s .r) (rowAt Source (s .source .now) (s .i)) t))
 
 same-length-3 : tie.Need-same-length-3
 same-length-3 c = search needs
@@ -90,7 +91,7 @@ returns-4 c =
     let s = c .before .before .before .before .before .before .before .before .before .before .before .before .before .before .before .before .before .before .args in
     let q = c .before .before .before .before .before .before .row .ensures in
     let t = rw q at (c .before .before .before .before .before .match .keys4) in
-    outcome _ _ (CallMismatch (s .i)) _ _ _ _ _ _ refl (c .before .before .before .call-corr .ensures .0) (c .before .before .before .call-corr .ensures .1) (c .matched4 .ensures) (rw q (call-answer (s .source .now) (s .ebits .now) (s .eside .now) (s .map .now) (s .reads .now) (s .calls .now) (s .cargs .now) (s .target .now) (s .tbits .now) (s .ent .now) (s .cls .now) (s .i) (s .r) (rowAt Source (s .source .now) (s .i)) t)) (call-classes (s .source .now) (s .ebits .now) (s .eside .now) (s .map .now) (s .reads .now) (s .calls .now) (s .cargs .now) (s .target .now) (s .tbits .now) (s .ent .now) (s .cls .now) (s .i) (s .r) (rowAt Source (s .source .now) (s .i)) t)
+    outcome _ _ (CallMismatch (s .i)) _ _ _ _ _ _ refl (c .before .before .before .call-corr .ensures .0) (c .before .before .before .call-corr .ensures .1) (c .matched4 .ensures) (rw q (call-answer (binding (s .source .now) (s .ebits .now) (s .eside .now) (s .map .now) (s .reads .now) (s .calls .now) (s .cargs .now) (s .target .now) (s .tbits .now)) (s .ent .now) (s .cls .now) (s .i) (s .r) (rowAt Source (s .source .now) (s .i)) t)) (call-classes (binding (s .source .now) (s .ebits .now) (s .eside .now) (s .map .now) (s .reads .now) (s .calls .now) (s .cargs .now) (s .target .now) (s .tbits .now)) (s .ent .now) (s .cls .now) (s .i) (s .r) (rowAt Source (s .source .now) (s .i)) t)
 
 returns-5 : tie.Need-returns-5
 returns-5 c =
@@ -99,7 +100,7 @@ returns-5 c =
     let q = c .before .before .before .row .ensures in
     let n = c .before .before .match .rest in
     let t = rw q at (plain-ready _ _ _ _ _ (p .0) _ (p .1 .1 .0) _ q (n .0 .0 .0 .1) (n .0 .0 .1) (n .0 .1) (n .1)) in
-    outcome _ _ (NodeMismatch (s .i)) _ _ _ _ _ _ refl (c .before .node-corr .ensures) (sym (cond-same (c .before .node-corr .result) (s .cls .now))) (c .matched5 .ensures) (rw q (plain-answer (s .source .now) (s .ebits .now) (s .eside .now) (s .map .now) (s .reads .now) (s .calls .now) (s .cargs .now) (s .target .now) (s .tbits .now) (s .ent .now) (s .cls .now) (s .i) (s .r) (rowAt Source (s .source .now) (s .i)) t)) (plain-classes (s .source .now) (s .ebits .now) (s .eside .now) (s .map .now) (s .reads .now) (s .calls .now) (s .cargs .now) (s .target .now) (s .tbits .now) (s .ent .now) (s .cls .now) (s .i) (s .r) (rowAt Source (s .source .now) (s .i)) t)
+    outcome _ _ (NodeMismatch (s .i)) _ _ _ _ _ _ refl (c .before .node-corr .ensures) (sym (cond-same (c .before .node-corr .result) (s .cls .now))) (c .matched5 .ensures) (rw q (plain-answer (binding (s .source .now) (s .ebits .now) (s .eside .now) (s .map .now) (s .reads .now) (s .calls .now) (s .cargs .now) (s .target .now) (s .tbits .now)) (s .ent .now) (s .cls .now) (s .i) (s .r) (rowAt Source (s .source .now) (s .i)) t)) (plain-classes (binding (s .source .now) (s .ebits .now) (s .eside .now) (s .map .now) (s .reads .now) (s .calls .now) (s .cargs .now) (s .target .now) (s .tbits .now)) (s .ent .now) (s .cls .now) (s .i) (s .r) (rowAt Source (s .source .now) (s .i)) t)
 
 pub row-corr-spec : {M : Type 1} → statement M
 row-corr-spec =
