@@ -3,7 +3,7 @@ use Prim.Native.Nat.{ℕ, _≤_, _<_, _-_, _*_, _/_, _^_}
 use mathlib.Core.Path.{_≡_, refl, sym, ap, ap₂, _∙_}
 use mathlib.Core.Bool.{Bool, true, false, cond}
 use native.Mathlib.Omega.{arith}
-use native.Mathlib.Nat.{mul-mod-left, mul-assoc, div-eq-of-lt, lt-of-lt-of-le, sub-add-cancel, sub-zero}
+use native.Mathlib.Nat.{mul-mod-left, mul-assoc, div-eq-of-lt, lt-of-lt-of-le, sub-add-cancel}
 use lib.Dec.{ltb}
 use lib.Pow.{pow-add, pow-mono, shr-le, ones-sub-lt}
 use borrow.Author.Tests.{ltb-false}
@@ -36,13 +36,6 @@ ashr-law w a b l =
     let s : bvlshr w (bvnot w a) b ≡ (2 ^ w - 1 - a) / 2 ^ b = ap (λ (x : ℕ). bvlshr w x b) n ∙ lshr-law w (2 ^ w - 1 - a) b m in
     let f : (2 ^ w - 1 - a) / 2 ^ b < 2 ^ w = omega (arith, shr-le (2 ^ w - 1 - a) b) in
     ap₂ (cond (negative w a)) (ap (bvnot w) s ∙ not-law w ((2 ^ w - 1 - a) / 2 ^ b) f) (lshr-law w a b l)
-
--- by the width or more: copies of the top bit
-pub ashr-out : (w a b : ℕ) → a < 2 ^ w → w ≤ b → bvashr w a b ≡ cond (negative w a) (2 ^ w - 1) 0
-ashr-out w a b l h =
-    let m : 2 ^ w - 1 - a < 2 ^ b = lt-of-lt-of-le (ones-sub-lt w a) (pow-mono h) in
-    let n : a < 2 ^ b = lt-of-lt-of-le l (pow-mono h) in
-    ashr-law w a b l ∙ ap₂ (cond (negative w a)) (rw (div-eq-of-lt m, sub-zero)) (div-eq-of-lt n)
 
 -- the two cases of the sign
 pub ashr-negative : (w a b : ℕ) → negative w a ≡ true → bvashr w a b ≡ bvnot w (bvlshr w (bvnot w a) b)

@@ -1,6 +1,5 @@
 pub mod Fits
 pub mod Signs
-pub mod Modulo
 pub mod Laws
 pub mod Machine
 pub mod Examples

@@ -16,10 +16,8 @@ ghost use Rattle.rows.specs.Tags.{either};
 ghost use Rattle.rows.specs.Node.{nodeOf};
 ghost use Rattle.matching.specs.Ready.{Formed};
 use answers::Answer;
+use images::MAX;
 use rows::Graph;
-
-// A row that is mapped here has no image.
-const MAX: u64 = 0xffff_ffff_ffff_ffff;
 
 // The classes of a read or call variable that nothing has reached.
 fn dead_class(c: u64) -> bool

@@ -13,9 +13,8 @@ ghost use Rattle.lowering.specs.Roots.{badLead, leads, pairsWith, readsNeed, re
 ghost use Rattle.images.specs.Bits.{BitsWithin, ConstsWithin};
 ghost use Rattle.pairs.specs.Shape.{antecedent};
 ghost use Rattle.pairs.specs.Walk.{walked, ReadsIn};
+use images::MAX;
 use rows::Graph;
-
-const MAX: u64 = 0xffff_ffff_ffff_ffff;
 
 // The result of a walk along congruence roots: all stand, and the position after those that do.
 pub struct Cong {

@@ -96,30 +96,6 @@ pub fn node_tag(r: [u64; 5]) -> u64
     r[0]
 }
 
-pub fn node_f1(r: [u64; 5]) -> u64
-    ensures word { λ t. ⌜ t ≡ getD r 1 0 ⌝ }
-{
-    r[1]
-}
-
-pub fn node_f2(r: [u64; 5]) -> u64
-    ensures word { λ t. ⌜ t ≡ getD r 2 0 ⌝ }
-{
-    r[2]
-}
-
-pub fn node_f3(r: [u64; 5]) -> u64
-    ensures word { λ t. ⌜ t ≡ getD r 3 0 ⌝ }
-{
-    r[3]
-}
-
-pub fn node_f4(r: [u64; 5]) -> u64
-    ensures word { λ t. ⌜ t ≡ getD r 4 0 ⌝ }
-{
-    r[4]
-}
-
 fn node_from(t: u64, a: u64, b: u64, c: u64, d: u64) -> Node
     ensures node { λ r. ⌜ r ≡ nodeFrom t a b c d ⌝ }
 {

@@ -9,11 +9,8 @@ ghost use Rattle.rows.specs.Row.{rowCount};
 ghost use Rattle.lowering.specs.Tables.{readCount, callCount, sameRead, sameCall, readGood, callGood, readClasses, callClasses, readOffsets, callOffsets, badRead, badCall};
 ghost use Rattle.tables.specs.Entries.{freeWide, freeAny, readIs, ArgsWithin, argsIn, argsEq, callIs};
 use rows::Graph;
-
-// The widths of a read's index and of its variable.
-const INDEX_WIDTH: u64 = 32;
-
-const CELL_WIDTH: u64 = 8;
+use wf::CELL_WIDTH;
+use wf::INDEX_WIDTH;
 
 // Row v is a Var of width w in class 0.
 fn free_wide(target: &[u64], cls: &[u64], w: u64, v: u64) -> bool

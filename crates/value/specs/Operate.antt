@@ -26,48 +26,79 @@ test f ps vs = f (nat (arg vs 0)) (nat (arg vs 1))
 -- one line a tag, 0 to 36
 abbrev pub numbers : List (List ℕ → List Val → ℕ)
 numbers =
-    -- Var has no operator; Const's parameters are its width and its number
+    -- 0 Var: a row's own value is given, not computed
     (λ ps vs. 0)
+    -- 1 Const: its parameters are its width and its number
     ∷ (λ ps vs. getD ps 1 0)
-    -- Add, Sub, Mul, Udiv, Urem
+    -- 2 Add
     ∷ bin bvadd
+    -- 3 Sub
     ∷ bin bvsub
+    -- 4 Mul
     ∷ bin bvmul
+    -- 5 Udiv
     ∷ bin bvudiv
+    -- 6 Urem
     ∷ bin bvurem
-    -- And, Or, Xor, Shl, Lshr, Ashr, Rotr
+    -- 7 And
     ∷ bin bvand
+    -- 8 Or
     ∷ bin bvor
+    -- 9 Xor
     ∷ bin bvxor
+    -- 10 Shl
     ∷ bin bvshl
+    -- 11 Lshr
     ∷ bin bvlshr
+    -- 12 Ashr
     ∷ bin bvashr
+    -- 13 Rotr
     ∷ bin bvrotr
-    -- Extract(high, low), Concat, ZeroExt(n), SignExt(n), Ite
+    -- 14 Extract(high, low)
     ∷ (λ ps vs. extract (getD ps 0 0) (getD ps 1 0) (nat (arg vs 0)))
+    -- 15 Concat
     ∷ (λ ps vs. concat (wid (arg vs 1)) (nat (arg vs 0)) (nat (arg vs 1)))
+    -- 16 ZeroExt(n)
     ∷ un zero-extend
+    -- 17 SignExt(n)
     ∷ (λ ps vs. sign-extend (wid (arg vs 0)) (getD ps 0 0) (nat (arg vs 0)))
+    -- 18 Ite
     ∷ (λ ps vs. ite (nat (arg vs 0)) (nat (arg vs 1)) (nat (arg vs 2)))
-    -- Eq, Ne, Ult, Ule, Ugt, Uge, Slt, Sle, Sgt, Sge
+    -- 19 Eq
     ∷ test equal
+    -- 20 Ne
     ∷ test distinct
+    -- 21 Ult
     ∷ test bvult
+    -- 22 Ule
     ∷ test bvule
+    -- 23 Ugt
     ∷ test bvugt
+    -- 24 Uge
     ∷ test bvuge
+    -- 25 Slt
     ∷ bin bvslt
+    -- 26 Sle
     ∷ bin bvsle
+    -- 27 Sgt
     ∷ bin bvsgt
+    -- 28 Sge
     ∷ bin bvsge
-    -- Not, BoolAnd, BoolOr on one bit; BvNot, Neg, Rotl, Sdiv, Srem
+    -- 29 Not
     ∷ un bvnot
+    -- 30 BoolAnd
     ∷ bin bvand
+    -- 31 BoolOr
     ∷ bin bvor
+    -- 32 BvNot
     ∷ un bvnot
+    -- 33 Neg
     ∷ un bvneg
+    -- 34 Rotl
     ∷ bin bvrotl
+    -- 35 Sdiv
     ∷ bin bvsdiv
+    -- 36 Srem
     ∷ bin bvsrem
     ∷ []
 

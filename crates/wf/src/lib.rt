@@ -14,9 +14,9 @@ use rows::Node;
 // No width passes it.
 const CEILING: u64 = 0xffff_ffff_ffff_ffff;
 // The widths of a Select's index and of an array's cell.
-const INDEX_WIDTH: u64 = 32;
+pub const INDEX_WIDTH: u64 = 32;
 
-const CELL_WIDTH: u64 = 8;
+pub const CELL_WIDTH: u64 = 8;
 
 // The sum of two widths, or 0 where it passes the ceiling.
 fn sum_width(a: u64, b: u64) -> u64
