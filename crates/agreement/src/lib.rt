@@ -5,7 +5,8 @@ ghost use Prim.Native.Nat.{_<_, _≤_};
 ghost use lib.ListN.{length, getD};
 ghost use Rattle.gilfrunt.specs.Exports.{result, resultOf, checked, checkedOf};
 ghost use Rattle.cases.specs.Case.{given};
-ghost use Rattle.agreement.specs.Agrees.{room, widthsOf, SameWidths, WidthsAgree, RootsAgree, SameValues, ValuesAgree, checkOf, SameCheck, CheckAgrees, BookAgrees, SameSection, SectionAgrees, Agrees};
+ghost use Rattle.agreement.specs.Agrees.{room, widthsOf, SameWidths, WidthsAgree, RootsAgree, SameValues, ValuesAgree, checkOf, SameCheck};
+ghost use Rattle.agreement.specs.Agrees.{CheckAgrees, BookAgrees, SameSection, SectionAgrees, Agrees};
 use answers::Words;
 
 // The longest line, and so the longest list: a line has no more words.
@@ -33,7 +34,8 @@ pub fn agrees(words: &[u64]) -> bool
 }
 
 fn call_widths(words: &[u64], source: bool, bits: &[u8], widths: &mut [u64]) -> Words
-    ensures outcome { λ r. ⌜ result r (now (widths .exit)) ≡ resultOf (widthsOf source (now (words .entry)) (now (bits .entry)) (now (widths .entry))) ⌝ }
+    ensures outcome { λ r. ⌜ result r (now (widths .exit)) ≡ resultOf (widthsOf source (now (words .entry)) (now (bits .entry))
+        (now (widths .entry))) ⌝ }
 {
     let rows = cases::given(words, 0);
     if source {

@@ -5,14 +5,18 @@ use mathlib.Core.List.{List, _++_}
 use lib.Dec.{eqb}
 use lib.ListN.{length, replicate}
 use Rattle.answers.specs.declared.Answer.{Answer}
-use Rattle.answers.specs.declared.Answer.the-variants.{Accepted, Ext, Core, MapLength, MapOutOfRange, ReadTable, CallTable, VarClass, ConstMismatch, NodeMismatch, ChainMismatch, CallMismatch, RootMismatch, CongruenceMismatch, DeadEntry, RowCount, BadRow, BadBit, WorkShort, BadRoot, BookShape, TooWide, ValueCount, ValueRange, NoSection, CellTable, FunctionCells, RootFalse, SortTable, NoRows, BookFull, ListShort}
+use Rattle.answers.specs.declared.Answer.the-variants.{Accepted, Ext, Core, MapLength, MapOutOfRange, ReadTable, CallTable, VarClass}
+use Rattle.answers.specs.declared.Answer.the-variants.{ConstMismatch, NodeMismatch, ChainMismatch, CallMismatch, RootMismatch}
+use Rattle.answers.specs.declared.Answer.the-variants.{CongruenceMismatch, DeadEntry, RowCount, BadRow, BadBit, WorkShort, BadRoot, BookShape}
+use Rattle.answers.specs.declared.Answer.the-variants.{TooWide, ValueCount, ValueRange, NoSection, CellTable, FunctionCells, RootFalse}
+use Rattle.answers.specs.declared.Answer.the-variants.{SortTable, NoRows, BookFull, ListShort}
 use Rattle.answers.specs.declared.Words.{Words}
 
 abbrev pub words : ℕ → ℕ → ℕ → Words
 words n p d = record { number = n; place = p; detail = d }
 
--- "An answer is a number with place and detail; acceptance is number 0, and a place or detail not named is 0". `ListShort` is 02's late 18 (2.3), of a
--- list that turns out too short after it was begun
+-- "An answer is a number with place and detail; acceptance is number 0, and a place or detail not named is 0". `ListShort` is 02's late 18 (2.3),
+-- of a list that turns out too short after it was begun
 abbrev pub wordsOf : Answer → Words
 wordsOf Accepted = words 0 0 0
 wordsOf (Ext row) = words 1 row 0

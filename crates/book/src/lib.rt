@@ -5,7 +5,8 @@ ghost use mathlib.Core.Bool.{true};
 ghost use Prim.Native.Nat.{_+_, _*_, _/_, _≤_, _<_};
 ghost use lib.Dec.{ltb};
 ghost use lib.ListN.{length, take, drop};
-ghost use Rattle.book.specs.Book.{wordAt, sections, contents, startOf, lengthOf, endOf, dueAt, isBits, badSection, firstBad, bookAnswer, sectionAnswer, body, sectionPlace, section};
+ghost use Rattle.book.specs.Book.{wordAt, sections, contents, startOf, lengthOf, endOf, dueAt, isBits, badSection, firstBad, bookAnswer};
+ghost use Rattle.book.specs.Book.{sectionAnswer, body, sectionPlace, section};
 ghost use Rattle.book.specs.Words.{wordsOf, listOf, loaded, Good};
 use answers::Answer;
 
@@ -231,7 +232,8 @@ pub fn offset(book: &[u8], i: usize) -> usize
 fn load_section(book: &[u8], i: usize, words: &mut [u64])
     requires { ⌜ (i < sections) × Good (now book) ⌝ }
     requires { ⌜ length (loaded (now book) i) + length (listOf (now book) i) ≤ length (now words) ⌝ }
-    ensures list { λ _. ⌜ now (words .exit) ≡ take (length (loaded (now (book .entry)) i)) (now (words .entry)) ++ (listOf (now (book .entry)) i ++ drop (length (loaded (now (book .entry)) i) + length (listOf (now (book .entry)) i)) (now (words .entry))) ⌝ }
+    ensures list { λ _. ⌜ now (words .exit) ≡ take (length (loaded (now (book .entry)) i)) (now (words .entry)) ++ (listOf
+        (now (book .entry)) i ++ drop (length (loaded (now (book .entry)) i) + length (listOf (now (book .entry)) i)) (now (words .entry))) ⌝ }
 {
     if is_bits(i) {
         return;
@@ -244,7 +246,8 @@ fn load_section(book: &[u8], i: usize, words: &mut [u64])
 pub fn load(book: &[u8], words: &mut [u64])
     requires { ⌜ Good (now book) ⌝ }
     requires { ⌜ length (loaded (now book) sections) ≤ length (now words) ⌝ }
-    ensures list { λ _. ⌜ now (words .exit) ≡ loaded (now (book .entry)) sections ++ drop (length (loaded (now (book .entry)) sections)) (now (words .entry)) ⌝ }
+    ensures list { λ _. ⌜ now (words .exit) ≡ loaded (now (book .entry)) sections ++ drop (length (loaded (now (book .entry)) sections))
+        (now (words .entry)) ⌝ }
 {
     let mut i = 0;
     while i < SECTIONS {

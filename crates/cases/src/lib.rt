@@ -144,7 +144,8 @@ pub fn same_lent(words: &[u64], k: usize, list: &[u64]) -> bool
 // Whether two lists are lent lists k and k + 1.
 pub fn same_both(words: &[u64], k: usize, a: &[u64], b: &[u64]) -> bool
     requires { ⌜ k ≤ 2 ⌝ }
-    ensures equal { λ r. ⌜ (r ≡ true → (now (a .entry) ≡ expected (now (words .entry)) k) × (now (b .entry) ≡ expected (now (words .entry)) (k + 1))) ⌝ }
+    ensures equal { λ r. ⌜ (r ≡ true → (now (a .entry) ≡ expected (now (words .entry)) k) × (now (b .entry) ≡ expected
+        (now (words .entry)) (k + 1))) ⌝ }
 {
     if !same_lent(words, k, a) {
         return false;

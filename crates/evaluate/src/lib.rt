@@ -78,7 +78,8 @@ fn node_value(bits: &[u8], ws: &[u64], vs: &[u64], x: u64, node: Node) -> u64
 fn row_value(g: &[u64], bits: &[u8], ws: &[u64], vs: &[u64], x: u64, i: usize) -> u64
     requires { ⌜ i < rowCount Graph.Target (now g) ⌝ }
     requires { ⌜ Ready (now bits) (now ws) (now vs) (length (now vs)) (nodeOf (rowAt Graph.Target (now g) i)) ⌝ }
-    ensures value { λ r. ⌜ r ≡ nat (nodeValue (now (bits .entry)) (λ j. x) (lookup (now (ws .entry)) (now (vs .entry))) 0 (nodeOf (rowAt Graph.Target (now (g .entry)) i))) ⌝ }
+    ensures value { λ r. ⌜ r ≡ nat (nodeValue (now (bits .entry)) (λ j. x) (lookup (now (ws .entry))
+        (now (vs .entry))) 0 (nodeOf (rowAt Graph.Target (now (g .entry)) i))) ⌝ }
 {
     let node = rows::decode(rows::row(Graph::Target, g, i));
     node_value(bits, ws, vs, x, node)
@@ -88,7 +89,8 @@ fn row_value(g: &[u64], bits: &[u8], ws: &[u64], vs: &[u64], x: u64, i: usize) -
 pub fn evaluate(g: &[u64], bits: &[u8], given: &[u64], ws: &[u64], vs: &mut [u64])
     requires { ⌜ Evaluable (now g) (now bits) (now given) (now ws) ⌝ }
     requires { ⌜ length (now ws) ≤ length (now vs) ⌝ }
-    ensures list { λ _. ⌜ now (vs .exit) ≡ numbersTo (now (g .entry)) (now (bits .entry)) (now (given .entry)) (length (now (ws .entry))) ++ drop (length (now (ws .entry))) (now (vs .entry)) ⌝ }
+    ensures list { λ _. ⌜ now (vs .exit) ≡ numbersTo (now (g .entry)) (now (bits .entry)) (now (given .entry)) (length (now (ws .entry))) ++ drop
+        (length (now (ws .entry))) (now (vs .entry)) ⌝ }
 {
     let n = ws.len();
     let mut i = 0;

@@ -19,7 +19,8 @@ pub extern "C" fn gilfrunt_source_widths(
     side: &[u64],
     widths: &mut [u64],
 ) -> Words
-    ensures outcome { λ r. ⌜ result r (now (widths .exit)) ≡ resultOf (sourceWidths (now (source .entry)) (now (bits .entry)) (now (side .entry)) (now (widths .entry))) ⌝ }
+    ensures outcome { λ r. ⌜ result r (now (widths .exit)) ≡ resultOf (sourceWidths (now (source .entry)) (now (bits .entry)) (now (side .entry))
+        (now (widths .entry))) ⌝ }
 {
     let a = widths::source_widths(source, bits, side, widths);
     answers::words_of(a)
@@ -27,7 +28,8 @@ pub extern "C" fn gilfrunt_source_widths(
 
 #[no_mangle]
 pub extern "C" fn gilfrunt_target_widths(target: &[u64], bits: &[u8], widths: &mut [u64]) -> Words
-    ensures outcome { λ r. ⌜ result r (now (widths .exit)) ≡ resultOf (targetWidths (now (target .entry)) (now (bits .entry)) (now (widths .entry))) ⌝ }
+    ensures outcome { λ r. ⌜ result r (now (widths .exit)) ≡ resultOf (targetWidths (now (target .entry)) (now (bits .entry))
+        (now (widths .entry))) ⌝ }
 {
     let a = widths::target_widths(target, bits, widths);
     answers::words_of(a)
@@ -49,7 +51,8 @@ pub extern "C" fn gilfrunt_values(
     widths: &mut [u64],
     numbers: &mut [u64],
 ) -> Words
-    ensures outcome { λ r. ⌜ results r (now (widths .exit)) (now (numbers .exit)) ≡ resultsOf (values (now (target .entry)) (now (bits .entry)) (now (given .entry)) (now (widths .entry)) (now (numbers .entry))) ⌝ }
+    ensures outcome { λ r. ⌜ results r (now (widths .exit)) (now (numbers .exit)) ≡ resultsOf (values (now (target .entry)) (now (bits .entry))
+        (now (given .entry)) (now (widths .entry)) (now (numbers .entry))) ⌝ }
 {
     let a = values::values(target, bits, given, widths, numbers);
     answers::words_of(a)
@@ -73,8 +76,13 @@ pub extern "C" fn gilfrunt_check(
     classes: &mut [u64],
     entries: &mut [u64],
 ) -> Words
-    ensures outcome { λ r. ⌜ checked r (now (ws0 .exit)) (now (ws1 .exit)) (now (classes .exit)) (now (entries .exit)) ≡ checkedOf (check (lowering (now (source .entry)) (now (ebits .entry)) (now (eside .entry)) (now (eroots .entry)) (now (map .entry)) (now (reads .entry)) (now (calls .entry)) (now (cargs .entry)) (now (target .entry)) (now (tbits .entry)) (now (troots .entry))) (now (ws0 .entry)) (now (ws1 .entry)) (now (classes .entry)) (now (entries .entry))) ⌝ }
-    ensures sound { λ r. ⌜ (r .number ≡ 0 → Sound (lowering (now (source .entry)) (now (ebits .entry)) (now (eside .entry)) (now (eroots .entry)) (now (map .entry)) (now (reads .entry)) (now (calls .entry)) (now (cargs .entry)) (now (target .entry)) (now (tbits .entry)) (now (troots .entry)))) ⌝ }
+    ensures outcome { λ r. ⌜ checked r (now (ws0 .exit)) (now (ws1 .exit)) (now (classes .exit)) (now (entries .exit)) ≡ checkedOf (check (lowering
+        (now (source .entry)) (now (ebits .entry)) (now (eside .entry)) (now (eroots .entry)) (now (map .entry)) (now (reads .entry))
+        (now (calls .entry)) (now (cargs .entry)) (now (target .entry)) (now (tbits .entry)) (now (troots .entry))) (now (ws0 .entry))
+        (now (ws1 .entry)) (now (classes .entry)) (now (entries .entry))) ⌝ }
+    ensures sound { λ r. ⌜ (r .number ≡ 0 → Sound (lowering (now (source .entry)) (now (ebits .entry)) (now (eside .entry)) (now (eroots .entry))
+        (now (map .entry)) (now (reads .entry)) (now (calls .entry)) (now (cargs .entry)) (now (target .entry)) (now (tbits .entry))
+        (now (troots .entry)))) ⌝ }
 {
     let a = checker::check(
         source,
@@ -121,7 +129,9 @@ pub extern "C" fn gilfrunt_judge(
     entries: &mut [u64],
     words: &mut [u64],
 ) -> Words
-    ensures outcome { λ r. ⌜ judgement r (now (ws0 .exit)) (now (ws1 .exit)) (now (classes .exit)) (now (entries .exit)) (now (words .exit)) ≡ judgementOf (judge (now (book .entry)) (now (ws0 .entry)) (now (ws1 .entry)) (now (classes .entry)) (now (entries .entry)) (now (words .entry))) ⌝ }
+    ensures outcome { λ r. ⌜ judgement r (now (ws0 .exit)) (now (ws1 .exit)) (now (classes .exit)) (now (entries .exit)) (now (words .exit))
+        ≡ judgementOf (judge (now (book .entry)) (now (ws0 .entry)) (now (ws1 .entry)) (now (classes .entry)) (now (entries .entry))
+        (now (words .entry))) ⌝ }
     ensures sound { λ r. ⌜ (r .number ≡ 0 → Sound (held (now (book .entry)))) ⌝ }
 {
     let a = judge::judge(book, ws0, ws1, classes, entries, words);

@@ -15,7 +15,8 @@ use Rattle.lowering.specs.Check.{widthsOfSource, widthsOfTarget, classes, offse
 -- "the bodies in the order of `check_sliver_lowering`'s arguments"
 abbrev pub held : List ℕ → Lowering
 held b =
-    lowering (listOf b 0) (body b 1) (listOf b 2) (listOf b 3) (listOf b 4) (listOf b 5) (listOf b 6) (listOf b 7) (listOf b 8) (body b 9) (listOf b 10)
+    let words = listOf b in
+    lowering (words 0) (body b 1) (words 2) (words 3) (words 4) (words 5) (words 6) (words 7) (words 8) (body b 9) (words 10)
 
 -- all words that a book holds
 abbrev pub bookWords : List ℕ → List ℕ
@@ -42,8 +43,8 @@ abbrev pub judged : Answer → List ℕ → List ℕ → List ℕ → List ℕ �
 judged a ws0 ws1 cls ent words =
     record { answer = a; source-widths = ws0; target-widths = ws1; class-list = cls; entry-list = ent; word-list = words }
 
--- "15 and 18 write nothing, other refusals zero all that is lent for writing; acceptance leaves zeros past what it wrote": Check's lists and the book's
--- words
+-- "15 and 18 write nothing, other refusals zero all that is lent for writing; acceptance leaves zeros past what it wrote": Check's lists and the
+-- book's words
 abbrev pub judge : List ℕ → List ℕ → List ℕ → List ℕ → List ℕ → List ℕ → Judged
 judge b ws0 ws1 cls ent words =
     let a = judgeAnswer b (length ws0) (length ws1) (length cls) (length ent) (length words) in

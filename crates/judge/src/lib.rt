@@ -16,7 +16,8 @@ use answers::Answer;
 // 15 and 18, with room for some words in each of the five lists.
 fn room_answer(book: &[u8], w0: usize, w1: usize, c: usize, e: usize, room: usize) -> Answer
     requires { ⌜ Good (now book) ⌝ }
-    ensures answer { λ r. ⌜ r ≡ andThen (firstRefusal (countAnswers (held (now (book .entry)) .source) (held (now (book .entry)) .target) w0 w1 c e)) (refuse (ltb room (length (bookWords (now (book .entry))))) (WorkShort 5)) ⌝ }
+    ensures answer { λ r. ⌜ r ≡ andThen (firstRefusal (countAnswers (held (now (book .entry)) .source) (held
+        (now (book .entry)) .target) w0 w1 c e)) (refuse (ltb room (length (bookWords (now (book .entry))))) (WorkShort 5)) ⌝ }
 {
     let a = stages::count_answer(
         book::word_count(book, 0),
@@ -46,7 +47,8 @@ fn check_loaded(
 ) -> Answer
     requires { ⌜ Good (now book) ⌝ }
     requires { ⌜ now words ≡ loaded (now book) sections ++ drop (length (loaded (now book) sections)) (now words) ⌝ }
-    ensures outcome { λ r. ⌜ outcome r (now (ws0 .exit)) (now (ws1 .exit)) (now (cls .exit)) (now (ent .exit)) ≡ check (held (now (book .entry))) (now (ws0 .entry)) (now (ws1 .entry)) (now (cls .entry)) (now (ent .entry)) ⌝ }
+    ensures outcome { λ r. ⌜ outcome r (now (ws0 .exit)) (now (ws1 .exit)) (now (cls .exit)) (now (ent .exit)) ≡ check (held (now (book .entry)))
+        (now (ws0 .entry)) (now (ws1 .entry)) (now (cls .entry)) (now (ent .entry)) ⌝ }
 {
     checker::check(
         book::list_at(book, words, 0),
@@ -92,7 +94,8 @@ pub fn judge(
     ent: &mut [u64],
     words: &mut [u64],
 ) -> Answer
-    ensures outcome { λ r. ⌜ judged r (now (ws0 .exit)) (now (ws1 .exit)) (now (cls .exit)) (now (ent .exit)) (now (words .exit)) ≡ judge (now (book .entry)) (now (ws0 .entry)) (now (ws1 .entry)) (now (cls .entry)) (now (ent .entry)) (now (words .entry)) ⌝ }
+    ensures outcome { λ r. ⌜ judged r (now (ws0 .exit)) (now (ws1 .exit)) (now (cls .exit)) (now (ent .exit)) (now (words .exit)) ≡ judge
+        (now (book .entry)) (now (ws0 .entry)) (now (ws1 .entry)) (now (cls .entry)) (now (ent .entry)) (now (words .entry)) ⌝ }
 {
     let shape = book::book_answer(book);
     if !answers::is_accepted(shape) {

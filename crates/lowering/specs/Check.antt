@@ -5,7 +5,8 @@ use mathlib.Core.List.{List, [], _∷_, _++_}
 use lib.Dec.{eqb, ltb}
 use lib.ListN.{length, replicate}
 use Rattle.answers.specs.declared.Answer.{Answer}
-use Rattle.answers.specs.declared.Answer.the-variants.{Accepted, Ext, Core, RowCount, BadRow, BadBit, WorkShort, MapLength, ReadTable, CallTable, DeadEntry, RootMismatch, CongruenceMismatch}
+use Rattle.answers.specs.declared.Answer.the-variants.{Accepted, Ext, Core, RowCount, BadRow, BadBit, WorkShort, MapLength, ReadTable, CallTable}
+use Rattle.answers.specs.declared.Answer.the-variants.{DeadEntry, RootMismatch, CongruenceMismatch}
 use Rattle.answers.specs.Answer.{isAccepted, lent}
 use Rattle.rows.specs.declared.Graph.the-variants.{Source, Target}
 use Rattle.rows.specs.Row.{rowCount, ragged}
@@ -131,7 +132,8 @@ tableAnswers reads calls cargs target ws cls =
     let c = badCall calls cargs target (readClasses reads cls (readCount reads)) in
     refuse (ltb r (readCount reads)) (ReadTable r) ∷ refuse (ltb c (callCount calls)) (CallTable c) ∷ []
 
--- "3 MapLength (expected, found); 5 ReadTable (entry); 6 CallTable (entry) .. Then by row 4 .. 11. Then 14 DeadEntry (first variable)", then the roots
+-- "3 MapLength (expected, found); 5 ReadTable (entry); 6 CallTable (entry) .. Then by row 4 .. 11. Then 14 DeadEntry (first variable)", then the
+-- roots
 abbrev pub matchAnswers : Lowering → List Answer
 matchAnswers L =
     refuse (not (eqb (length (L .map)) (sourceRows L))) (MapLength (sourceRows L) (length (L .map)))
@@ -158,7 +160,8 @@ pub record Outcome : Type 0 where
 abbrev pub outcome : Answer → List ℕ → List ℕ → List ℕ → List ℕ → Outcome
 outcome a ws0 ws1 cls ent = record { answer = a; source-widths = ws0; target-widths = ws1; class-list = cls; entry-list = ent }
 
--- "15 and 18 write nothing; any other refusal zeroes all four lists. Acceptance leaves widths, classes and entry offsets .., zeros after the last row"
+-- "15 and 18 write nothing; any other refusal zeroes all four lists. Acceptance leaves widths, classes and entry offsets .., zeros after the last
+-- row"
 abbrev pub check : Lowering → List ℕ → List ℕ → List ℕ → List ℕ → Outcome
 check L ws0 ws1 cls ent =
     let a = checkAnswer L (length ws0) (length ws1) (length cls) (length ent) in

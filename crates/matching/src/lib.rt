@@ -106,9 +106,11 @@ fn row_corr(
     requires { ⌜ (length (now ent) ≡ rowCount Graph.Target (now target)) × (length (now cls) ≡ rowCount Graph.Target (now target)) ⌝ }
     requires { ⌜ (i < rowCount Graph.Source (now source)) × (r < rowCount Graph.Target (now target)) ⌝ }
     ensures answer { λ a. ⌜ a ≡ nodeAnswer (binding (now (source .entry)) (now (ebits .entry)) (now (eside .entry)) (now (map .entry))
-        (now (reads .entry)) (now (calls .entry)) (now (cargs .entry)) (now (target .entry)) (now (tbits .entry))) (now (ent .entry)) (now (cls .entry)) i r
+        (now (reads .entry)) (now (calls .entry)) (now (cargs .entry)) (now (target .entry)) (now (tbits .entry))) (now (ent .entry))
+        (now (cls .entry)) i r
         (nodeOf (rowAt Graph.Source (now (source .entry)) i)) ⌝ }
-    ensures list { λ a. ⌜ now (cls .exit) ≡ cond (isAccepted a) (nodeClasses (binding (now (source .entry)) (now (ebits .entry)) (now (eside .entry)) (now (map .entry))
+    ensures list { λ a. ⌜ now (cls .exit) ≡ cond (isAccepted a) (nodeClasses (binding (now (source .entry)) (now (ebits .entry))
+        (now (eside .entry)) (now (map .entry))
         (now (reads .entry)) (now (calls .entry)) (now (cargs .entry)) (now (target .entry)) (now (tbits .entry))) (now (cls .entry)) r
         (nodeOf (rowAt Graph.Source (now (source .entry)) i))) (now (cls .entry)) ⌝ }
 {
@@ -151,8 +153,10 @@ fn ext_step(
     requires { ⌜ (length (now ent) ≡ rowCount Graph.Target (now target)) × (length (now cls) ≡ rowCount Graph.Target (now target)) ⌝ }
     requires { ⌜ i < rowCount Graph.Source (now source) ⌝ }
     ensures answer { λ a. ⌜ a ≡ rowAnswer (binding (now (source .entry)) (now (ebits .entry)) (now (eside .entry)) (now (map .entry))
-        (now (reads .entry)) (now (calls .entry)) (now (cargs .entry)) (now (target .entry)) (now (tbits .entry))) (now (ent .entry)) (now (cls .entry)) i ⌝ }
-    ensures list { λ a. ⌜ now (cls .exit) ≡ cond (isAccepted a) (rowClasses (binding (now (source .entry)) (now (ebits .entry)) (now (eside .entry)) (now (map .entry))
+        (now (reads .entry)) (now (calls .entry)) (now (cargs .entry)) (now (target .entry)) (now (tbits .entry))) (now (ent .entry))
+        (now (cls .entry)) i ⌝ }
+    ensures list { λ a. ⌜ now (cls .exit) ≡ cond (isAccepted a) (rowClasses (binding (now (source .entry)) (now (ebits .entry)) (now (eside .entry))
+        (now (map .entry))
         (now (reads .entry)) (now (calls .entry)) (now (cargs .entry)) (now (target .entry)) (now (tbits .entry))) i (now (cls .entry)))
         (now (cls .entry)) ⌝ }
 {
@@ -197,11 +201,13 @@ pub fn ext_rows(
     requires { ⌜ Formed (now source) (now ebits) (now eside) (now target) (now tbits) ⌝ }
     requires { ⌜ (length (now ent) ≡ rowCount Graph.Target (now target)) × (length (now cls) ≡ rowCount Graph.Target (now target)) ⌝ }
     ensures answer { λ a. ⌜ a ≡ allRowsAnswer (binding (now (source .entry)) (now (ebits .entry)) (now (eside .entry)) (now (map .entry))
-        (now (reads .entry)) (now (calls .entry)) (now (cargs .entry)) (now (target .entry)) (now (tbits .entry))) (now (ent .entry)) (now (cls .entry)) ⌝ }
+        (now (reads .entry)) (now (calls .entry)) (now (cargs .entry)) (now (target .entry)) (now (tbits .entry))) (now (ent .entry))
+        (now (cls .entry)) ⌝ }
     ensures list { λ a. ⌜ now (cls .exit) ≡ classesTo (binding (now (source .entry)) (now (ebits .entry)) (now (eside .entry)) (now (map .entry))
         (now (reads .entry)) (now (calls .entry)) (now (cargs .entry)) (now (target .entry)) (now (tbits .entry))) (now (cls .entry))
         (refusedRow (binding (now (source .entry)) (now (ebits .entry)) (now (eside .entry)) (now (map .entry))
-        (now (reads .entry)) (now (calls .entry)) (now (cargs .entry)) (now (target .entry)) (now (tbits .entry))) (now (ent .entry)) (now (cls .entry))) ⌝ }
+        (now (reads .entry)) (now (calls .entry)) (now (cargs .entry)) (now (target .entry)) (now (tbits .entry))) (now (ent .entry))
+        (now (cls .entry))) ⌝ }
 {
     let n = rows::row_count(Graph::Source, source);
     let mut i = 0;

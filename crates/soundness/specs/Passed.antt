@@ -10,7 +10,8 @@ use Rattle.rows.specs.Encoding.{badRow, badBit}
 use Rattle.lowering.specs.Tables.{readCount, callCount, readGood, callGood, readClasses, callClasses}
 use Rattle.lowering.specs.Roots.{pair, leads, rootAt, readRoot, callRoot}
 use Rattle.lowering.specs.Lowering.{Lowering, sourceRows, targetRows}
-use Rattle.lowering.specs.Check.{sourceIll, targetIll, widthsOfTarget, noClasses, classesOfReads, classes, answerOf, pairsOfReads, pairsOfCalls, callRoots, rootsEnd}
+use Rattle.lowering.specs.Check.{sourceIll, targetIll, widthsOfTarget, noClasses, classesOfReads, classes, answerOf, pairsOfReads, pairsOfCalls}
+use Rattle.lowering.specs.Check.{callRoots, rootsEnd}
 
 -- when it comes to row n: both tables (5, 6), and the rows before it (4, 7 to 11)
 pub record Reached (L : Lowering) (n : ℕ) : Type 0 where

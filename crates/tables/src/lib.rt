@@ -6,7 +6,8 @@ ghost use lib.ListN.{length, getD};
 ghost use Rattle.lists.specs.First.{none};
 ghost use Rattle.rows.specs.declared.Graph.{Graph};
 ghost use Rattle.rows.specs.Row.{rowCount};
-ghost use Rattle.lowering.specs.Tables.{readCount, callCount, sameRead, sameCall, readGood, callGood, readClasses, callClasses, readOffsets, callOffsets, badRead, badCall};
+ghost use Rattle.lowering.specs.Tables.{readCount, callCount, sameRead, sameCall, readGood, callGood, readClasses, callClasses, readOffsets};
+ghost use Rattle.lowering.specs.Tables.{callOffsets, badRead, badCall};
 ghost use Rattle.tables.specs.Entries.{freeWide, freeAny, readIs, ArgsWithin, argsIn, argsEq, callIs};
 use rows::Graph;
 use wf::CELL_WIDTH;
@@ -148,7 +149,8 @@ fn args_eq(cargs: &[u64], s: usize, t: usize, k: usize) -> bool
 
 // The entry at off has this key.
 fn call_is(calls: &[u64], cargs: &[u64], off: usize, f: u64, s: u64, k: u64) -> bool
-    requires { ⌜ (off + 4 ≤ length (now calls)) × (getD (now calls) (off + 2) 0 + getD (now calls) (off + 3) 0 ≤ length (now cargs)) × (s + k ≤ length (now cargs)) ⌝ }
+    requires { ⌜ (off + 4 ≤ length (now calls)) × (getD (now calls) (off + 2) 0 + getD (now calls) (off + 3) 0 ≤ length (now cargs))
+        × (s + k ≤ length (now cargs)) ⌝ }
     ensures test { λ b. ⌜ b ≡ callIs (now (calls .entry)) (now (cargs .entry)) off f s k ⌝ }
 {
     if calls[off + 1] != f {

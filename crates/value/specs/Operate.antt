@@ -5,7 +5,9 @@ use mathlib.Core.Bool.{cond}
 use mathlib.Core.List.{List, [], _∷_}
 use lib.Dec.{eqb}
 use lib.ListN.{getD}
-use Rattle.bv.specs.Bv.{bvnot, bvand, bvor, bvxor, bvneg, bvadd, bvsub, bvmul, bvudiv, bvurem, bvsdiv, bvsrem, bvshl, bvlshr, bvashr, bvrotr, bvrotl, concat, extract, zero-extend, sign-extend, equal, distinct, bvult, bvule, bvugt, bvuge, bvslt, bvsle, bvsgt, bvsge, ite}
+use Rattle.bv.specs.Bv.{bvnot, bvand, bvor, bvxor, bvneg, bvadd, bvsub, bvmul, bvudiv, bvurem, bvsdiv, bvsrem, bvshl, bvlshr, bvashr, bvrotr}
+use Rattle.bv.specs.Bv.{bvrotl, concat, extract, zero-extend, sign-extend, equal, distinct, bvult, bvule, bvugt, bvuge, bvslt, bvsle, bvsgt, bvsge}
+use Rattle.bv.specs.Bv.{ite}
 use Rattle.bv.specs.Bits.{ofBits}
 use Rattle.rows.specs.declared.Node.{Node}
 use Rattle.rows.specs.declared.Node.the-variants.{Var, Const, Un, Bin, Extract, Extend, Ite, Select, Call, Unknown}

@@ -71,7 +71,8 @@ fn given_answer(g: &[u64], given: &[u64], ws: &[u64]) -> Answer
 
 // The numbers of a target's rows under the words given for its variables, with its widths, or the first refusal by 01's order.
 pub fn values(target: &[u64], bits: &[u8], given: &[u64], ws: &mut [u64], vs: &mut [u64]) -> Answer
-    ensures outcome { λ r. ⌜ out r (now (ws .exit)) (now (vs .exit)) ≡ values (now (target .entry)) (now (bits .entry)) (now (given .entry)) (now (ws .entry)) (now (vs .entry)) ⌝ }
+    ensures outcome { λ r. ⌜ out r (now (ws .exit)) (now (vs .exit)) ≡ values (now (target .entry)) (now (bits .entry)) (now (given .entry))
+        (now (ws .entry)) (now (vs .entry)) ⌝ }
 {
     if rows::is_ragged(Graph::Target, target) {
         return Answer::RowCount(2);

@@ -1,5 +1,6 @@
 -- When a row is well formed against the widths before it, and its width (01, 'Well-formedness': "Rules are those of `node_wf` and `node_width`;
--- operands are earlier rows"). A width of 0 stands for an ill-formed row, so the rules need not ask that an operand's width is above 0. Assumes nothing.
+-- operands are earlier rows"). A width of 0 stands for an ill-formed row, so the rules need not ask that an operand's width is above 0. Assumes
+-- nothing.
 use Prim.Native.Nat.{ℕ, _+_, _*_, _-_}
 use mathlib.Core.Bool.{Bool, true, false, cond, not}
 use mathlib.Core.List.{List, [], _∷_}
