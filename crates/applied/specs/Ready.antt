@@ -1,4 +1,5 @@
--- What a Call's form promises to the comparison of its arguments. Assumes nothing.
+-- What a Call's form promises to the comparison of its arguments.
+-- Inner: contracts within the code cite it; no answer's definition does. Assumes nothing.
 use Prim.Native.Nat.{ℕ, _+_, _<_}
 use mathlib.Core.List.{List}
 use lib.ListN.{length}

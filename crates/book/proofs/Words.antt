@@ -11,11 +11,11 @@ use borrow.Rule.Slice.PartMut.{midOf, postOf, putMid, post-is, mid-len}
 use Rattle.lists.specs.Build.{build}
 use Rattle.lists.proofs.Build.{build-length, build-start, build-store}
 use Rattle.book.specs.Book.{wordAt, sections, contents, startOf, lengthOf, dueAt, isBits, body}
-use Rattle.book.specs.Words.{wordsOf, listOf, loaded, Good}
+use Rattle.book.specs.Words.{wordsOfBytes, listOf, loaded, Good}
 use Rattle.book.proofs.Shape.{good-book}
 
 -- bytes have a word for each eight
-pub words-length : (bytes : List ℕ) → length (wordsOf bytes) ≡ length bytes / 8
+pub words-length : (bytes : List ℕ) → length (wordsOfBytes bytes) ≡ length bytes / 8
 words-length bytes = build-length (λ j before. wordAt bytes (8 * j)) (length bytes / 8)
 
 -- a section is no longer than its book, nor is the list of its words, whatever the contents say
@@ -88,7 +88,7 @@ module _ (bytes old : List ℕ) where
   pub read-more : (out : List ℕ) (j x : ℕ) → out ≡ read j → x ≡ wordAt bytes (8 * j) → j < length old → set out j x ≡ read (j + 1)
   read-more out j x e w h = rw (e, w) (build-store (λ (k : ℕ) (before : List ℕ). wordAt bytes (8 * k)) old 0 j h)
 
-  pub read-all : (out : List ℕ) (j n : ℕ) → n ≡ length bytes / 8 → j ≤ n → n ≤ j → out ≡ read j → out ≡ wordsOf bytes ++ drop (length bytes / 8) old
+  pub read-all : (out : List ℕ) (j n : ℕ) → n ≡ length bytes / 8 → j ≤ n → n ≤ j → out ≡ read j → out ≡ wordsOfBytes bytes ++ drop (length bytes / 8) old
   read-all out j n e h l f = let k : j ≡ length bytes / 8 = omega arith in f ∙ ap read k
 
 -- where a section's words stand among all
@@ -153,7 +153,7 @@ module _ (b : List ℕ) (i : ℕ) (old : List ℕ) where
   bits-joined t = let l : listOf b i ≡ [] = rw t in rw (l, add-zero) (sym (take-append-drop n old))
 
   module _ (g : Good b) (h : i < sections) (r : n + m ≤ length old) (at : ℕ) (e : at ≡ n) (bytes : List ℕ) (f : bytes ≡ body b i) (t : isBits i ≡ false) where
-    words-are : wordsOf bytes ≡ listOf b i
+    words-are : wordsOfBytes bytes ≡ listOf b i
     words-are = rw (t, f)
 
     eighth : length bytes / 8 ≡ m
@@ -165,8 +165,8 @@ module _ (b : List ℕ) (i : ℕ) (old : List ℕ) where
         let q : length bytes / 8 ≡ m = eighth in
         omega arith
 
-    pub words-joined : (ys : List ℕ) → ys ≡ wordsOf bytes ++ drop (length bytes / 8) (midOf at (length old - at) old) → putMid at (length old - at) old ys ≡ joined
-    words-joined ys q = put-front at (length bytes / 8) old ys (wordsOf bytes) (omega arith) q ∙ rw (words-are, eighth, e)
+    pub words-joined : (ys : List ℕ) → ys ≡ wordsOfBytes bytes ++ drop (length bytes / 8) (midOf at (length old - at) old) → putMid at (length old - at) old ys ≡ joined
+    words-joined ys q = put-front at (length bytes / 8) old ys (wordsOfBytes bytes) (omega arith) q ∙ rw (words-are, eighth, e)
 
 -- sections loaded one after the other
 module _ (b old : List ℕ) where

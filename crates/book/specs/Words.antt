@@ -9,12 +9,12 @@ use Rattle.lists.specs.Build.{build}
 use Rattle.book.specs.Book.{wordAt, isBits, body, bookAnswer}
 
 -- bytes as words, "little-endian"
-abbrev pub wordsOf : List ℕ → List ℕ
-wordsOf bytes = build (λ j before. wordAt bytes (8 * j)) (length bytes / 8)
+abbrev pub wordsOfBytes : List ℕ → List ℕ
+wordsOfBytes bytes = build (λ j before. wordAt bytes (8 * j)) (length bytes / 8)
 
 -- the words of section i + 1; "2 and 10, the bits" are bytes and have none
 abbrev pub listOf : List ℕ → ℕ → List ℕ
-listOf b i = cond (isBits i) [] (wordsOf (body b i))
+listOf b i = cond (isBits i) [] (wordsOfBytes (body b i))
 
 -- the words of the first n sections, one after the other
 unfoldable pub loaded : List ℕ → ℕ → List ℕ

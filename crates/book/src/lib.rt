@@ -7,7 +7,7 @@ ghost use lib.Dec.{ltb};
 ghost use lib.ListN.{length, take, drop};
 ghost use Rattle.book.specs.Book.{wordAt, sections, contents, startOf, lengthOf, endOf, dueAt, isBits, badSection, firstBad, bookAnswer};
 ghost use Rattle.book.specs.Book.{sectionAnswer, body, sectionPlace, section};
-ghost use Rattle.book.specs.Words.{wordsOf, listOf, loaded, Good};
+ghost use Rattle.book.specs.Words.{wordsOfBytes, listOf, loaded, Good};
 use answers::Answer;
 
 // A part of a book: its first byte's place and its length in bytes.
@@ -193,7 +193,7 @@ pub fn section_place(book: &[u8], number: u64) -> Stretch
 // The words of some bytes, put at the start of a list.
 fn read_words(bytes: &[u8], out: &mut [u64])
     requires { ⌜ length (now bytes) / 8 ≤ length (now out) ⌝ }
-    ensures list { λ _. ⌜ now (out .exit) ≡ wordsOf (now (bytes .entry)) ++ drop (length (now (bytes .entry)) / 8) (now (out .entry)) ⌝ }
+    ensures list { λ _. ⌜ now (out .exit) ≡ wordsOfBytes (now (bytes .entry)) ++ drop (length (now (bytes .entry)) / 8) (now (out .entry)) ⌝ }
 {
     let n = bytes.len() / 8;
     let mut j = 0;

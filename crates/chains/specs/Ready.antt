@@ -1,4 +1,5 @@
--- What a Select's form promises to its walk. Assumes nothing.
+-- What a Select's form promises to its walk.
+-- Inner: contracts within the code cite it; no answer's definition does. Assumes nothing.
 use Prim.Native.Nat.{ℕ, _+_, _*_, _<_}
 use mathlib.Core.List.{List}
 use lib.ListN.{length, getD}

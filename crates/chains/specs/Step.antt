@@ -1,4 +1,5 @@
--- One pair of a Select's walk. Assumes nothing.
+-- One pair of a Select's walk.
+-- Inner: contracts within the code cite it; no answer's definition does. Assumes nothing.
 use Prim.Native.Nat.{ℕ, _+_}
 use mathlib.Core.Bool.{cond}
 use mathlib.Core.List.{List}

@@ -1,4 +1,5 @@
--- What a call table that has passed says of its entries. Assumes nothing.
+-- What a call table that has passed says of its entries.
+-- Inner: contracts within the code cite it; no answer's definition does. Assumes nothing.
 use Prim.Native.Nat.{ℕ, _+_, _*_, _<_, _≤_}
 use mathlib.Core.List.{List}
 use lib.ListN.{length}

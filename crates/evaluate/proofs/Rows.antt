@@ -20,10 +20,10 @@ use Rattle.rows.specs.Node.{nodeOf, operands}
 use Rattle.rows.proofs.Tags.{node-good}
 use Rattle.value.specs.Val.{Val, val, wid, nat, Fit}
 use Rattle.value.specs.Operate.{operate, tagOf, parameters}
-use Rattle.value.specs.Graph.{nodeValue, rowValue, valuesTo, value}
+use Rattle.value.specs.Graph.{numbersTo, nodeValue, rowValue, valuesTo, value}
 use Rattle.value.proofs.Formed.{value-formed}
 use Rattle.wf.specs.Promise.{Below}
-use Rattle.evaluate.specs.Ready.{Ready, lookup, Evaluable, numbersTo}
+use Rattle.evaluate.specs.Ready.{Ready, lookup, Evaluable}
 
 map-snoc : (l : List Val) (v : Val) → map nat (l ++ (v ∷ [])) ≡ map nat l ++ (nat v ∷ [])
 map-snoc [] v = refl

@@ -1,15 +1,16 @@
--- When a row, and a graph, can be evaluated in words: what acceptance gives of them. Assumes nothing.
+-- When a row, and a graph, can be evaluated in words: what acceptance gives of them.
+-- Inner: contracts within the code cite it; no answer's definition does. Assumes nothing.
 use Prim.Native.Nat.{ℕ, _<_, _≤_, _^_}
 use mathlib.Core.Path.{_≡_}
-use mathlib.Core.List.{List, [], map}
+use mathlib.Core.List.{List, []}
 use lib.ListN.{length, getD}
 use Rattle.rows.specs.declared.Graph.the-variants.{Target}
 use Rattle.rows.specs.declared.Node.{Node}
 use Rattle.rows.specs.Row.{rowCount, rowAt}
 use Rattle.rows.specs.Node.{nodeOf, TagGood}
-use Rattle.value.specs.Val.{Val, val, nat}
+use Rattle.value.specs.Val.{Val, val}
 use Rattle.value.specs.Operate.{tagOf}
-use Rattle.value.specs.Graph.{valuesTo, Assigns}
+use Rattle.value.specs.Graph.{Assigns}
 use Rattle.wf.specs.Promise.{RowFormed, WellFormed}
 
 -- row i, a node, after rows of widths ws and numbers vs: it is well formed, widths are 1 to 64, and the numbers fit
@@ -37,7 +38,3 @@ pub record Evaluable (g bits given ws : List ℕ) : Type 0 where
   pub assigns : Assigns (λ i. getD given i 0) g
   pub widths : length ws ≡ rowCount Target g
   pub words : length given ≡ rowCount Target g
-
--- the numbers of the first n rows
-abbrev pub numbersTo : List ℕ → List ℕ → List ℕ → ℕ → List ℕ
-numbersTo g bits given n = map nat (valuesTo bits (λ i. getD given i 0) g n)

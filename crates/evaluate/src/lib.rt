@@ -12,8 +12,8 @@ ghost use Rattle.rows.specs.Tags.{isUn, isExtend};
 ghost use Rattle.rows.specs.Node.{nodeOf};
 ghost use Rattle.value.specs.Val.{nat};
 ghost use Rattle.value.specs.Operate.{opNumber};
-ghost use Rattle.value.specs.Graph.{nodeValue};
-ghost use Rattle.evaluate.specs.Ready.{Ready, lookup, Evaluable, numbersTo};
+ghost use Rattle.value.specs.Graph.{numbersTo, nodeValue};
+ghost use Rattle.evaluate.specs.Ready.{Ready, lookup, Evaluable};
 use rows::Graph;
 use rows::Node;
 

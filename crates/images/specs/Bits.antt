@@ -1,4 +1,5 @@
--- Where a row's bits lie. Assumes nothing.
+-- Where a row's bits lie.
+-- Inner: contracts within the code cite it; no answer's definition does. Assumes nothing.
 use Prim.Native.Nat.{ℕ, _+_, _<_, _≤_}
 use mathlib.Core.Path.{_≡_}
 use mathlib.Core.List.{List}

@@ -1,4 +1,5 @@
--- A row as a constant: the triple of the Rust's `ext_const`. Assumes nothing.
+-- A row as a constant: the triple of the Rust's `ext_const`.
+-- Inner: contracts within the code cite it; no answer's definition does. Assumes nothing.
 use Prim.Native.Nat.{ℕ}
 use mathlib.Core.Bool.{Bool, true, false, cond}
 use mathlib.Core.List.{List}

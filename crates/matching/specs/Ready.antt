@@ -1,4 +1,5 @@
--- What is asked of the graphs whose rows are matched. Assumes nothing.
+-- What is asked of the graphs whose rows are matched.
+-- Inner: contracts within the code cite it; no answer's definition does. Assumes nothing.
 use Prim.Native.Nat.{ℕ}
 use mathlib.Core.List.{List, []}
 use lib.ListN.{length}

@@ -1,4 +1,5 @@
--- The parts of a congruence root (01, 'How a row is matched': "BoolOr(Not(Eq(indices)), Eq(variables))"). Assumes nothing.
+-- The parts of a congruence root (01, 'How a row is matched': "BoolOr(Not(Eq(indices)), Eq(variables))").
+-- Inner: contracts within the code cite it; no answer's definition does. Assumes nothing.
 use Prim.Native.Nat.{ℕ}
 use mathlib.Core.Bool.{Bool, cond}
 use mathlib.Core.List.{List, [], _∷_}

@@ -1,4 +1,5 @@
--- A walk along the roots of some pairs, and what a read table that has passed says of its entries. Assumes nothing.
+-- A walk along the roots of some pairs, and what a read table that has passed says of its entries.
+-- Inner: contracts within the code cite it; no answer's definition does. Assumes nothing.
 use Prim.Native.Nat.{ℕ, _+_, _*_, _<_, _≤_}
 use mathlib.Core.Bool.{Bool}
 use mathlib.Core.List.{List}

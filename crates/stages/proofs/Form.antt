@@ -16,7 +16,8 @@ use Rattle.rows.specs.declared.Graph.{Graph}
 use Rattle.rows.specs.declared.Graph.the-variants.{Source, Target}
 use Rattle.rows.specs.Row.{rowCount}
 use Rattle.rows.specs.Encoding.{rowBad, badRow, badBit}
-use Rattle.wf.specs.Widths.{illRow, rowStops, stopRow, widthsTo, widths}
+use Rattle.wf.specs.Widths.{illRow, widthsTo, widths}
+use Rattle.wf.specs.Pass.{rowStops, stopRow}
 use Rattle.wf.proofs.Stop.{stop-none, stop-ill}
 use Rattle.lowering.proofs.Inversion.{each-accepted, not-refused}
 use Rattle.lowering.specs.Check.{firstRefusal, graphAnswers, graphsAnswer}

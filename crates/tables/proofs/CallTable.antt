@@ -11,7 +11,7 @@ use Rattle.lists.proofs.Tests.{all-true, agree-yes}
 use Rattle.rows.specs.declared.Graph.the-variants.{Target}
 use Rattle.rows.specs.Row.{rowCount}
 use Rattle.lowering.specs.Tables.{callVar, callFunction, callStart, argCount, callArg, sameFunction, sameCall, callGood, callClasses}
-use Rattle.tables.specs.Entries.{freeAny, ArgsWithin, argsIn, callIs}
+use Rattle.tables.specs.Entries.{freeAny, ArgsInside, argsIn, callIs}
 use Rattle.tables.proofs.Order.{fails, passes, two, three, alone}
 
 pub same-call-at : (calls cargs : List ℕ) (off k : ℕ) → off / 4 * 4 ≡ off
@@ -54,5 +54,5 @@ module _ (calls cargs target cls : List ℕ) (k : ℕ) where
 
 -- where the entries before k are good, their arguments lie in their list
 pub args-within : (calls cargs target cls : List ℕ) (k : ℕ) → ((j : ℕ) → j < k → not (callGood calls cargs target (callClasses calls cls j) j) ≡ false)
-    → ArgsWithin calls cargs k
+    → ArgsInside calls cargs k
 args-within calls cargs target cls k h l b = call-good calls cargs target (callClasses calls cls l) l (not-false _ (h l b)) .2

@@ -1,4 +1,5 @@
--- Parts of what makes an entry good. Assumes nothing.
+-- Parts of what makes an entry good.
+-- Inner: contracts within the code cite it; no answer's definition does. Assumes nothing.
 use Prim.Native.Nat.{ℕ, _+_, _<_, _≤_}
 use mathlib.Core.Bool.{Bool}
 use mathlib.Core.List.{List, [], _∷_}
@@ -25,8 +26,8 @@ abbrev pub readIs : List ℕ → ℕ → ℕ → ℕ → Bool
 readIs reads off array index = all (eqb (getD reads (off + 1) 0) array ∷ eqb (getD reads (off + 2) 0) index ∷ [])
 
 -- the arguments of the entries before k lie in the argument list
-abbrev pub ArgsWithin : List ℕ → List ℕ → ℕ → Type 0
-ArgsWithin calls cargs k = (l : ℕ) → l < k → callStart calls l + argCount calls l ≤ length cargs
+abbrev pub ArgsInside : List ℕ → List ℕ → ℕ → Type 0
+ArgsInside calls cargs k = (l : ℕ) → l < k → callStart calls l + argCount calls l ≤ length cargs
 
 -- k arguments from s on lie in the list and are below n; two stretches of k arguments are one
 abbrev pub argsIn : List ℕ → ℕ → ℕ → ℕ → Bool

@@ -8,7 +8,7 @@ ghost use Rattle.rows.specs.declared.Graph.{Graph};
 ghost use Rattle.rows.specs.Row.{rowCount};
 ghost use Rattle.lowering.specs.Tables.{readCount, callCount, sameRead, sameCall, readGood, callGood, readClasses, callClasses, readOffsets};
 ghost use Rattle.lowering.specs.Tables.{callOffsets, badRead, badCall};
-ghost use Rattle.tables.specs.Entries.{freeWide, freeAny, readIs, ArgsWithin, argsIn, argsEq, callIs};
+ghost use Rattle.tables.specs.Entries.{freeWide, freeAny, readIs, ArgsInside, argsIn, argsEq, callIs};
 use rows::Graph;
 use wf::CELL_WIDTH;
 use wf::INDEX_WIDTH;
@@ -165,7 +165,7 @@ fn call_is(calls: &[u64], cargs: &[u64], off: usize, f: u64, s: u64, k: u64) -> 
 // An entry before k has its key. Entry k ends the search here too.
 fn call_dup(calls: &[u64], cargs: &[u64], k: usize) -> bool
     requires { ⌜ k * 4 + 4 ≤ length (now calls) ⌝ }
-    requires { ⌜ ArgsWithin (now calls) (now cargs) (k + 1) ⌝ }
+    requires { ⌜ ArgsInside (now calls) (now cargs) (k + 1) ⌝ }
     ensures test { λ b. ⌜ b ≡ not (none (λ l. sameCall (now (calls .entry)) (now (cargs .entry)) l k) k) ⌝ }
 {
     let upto = k * 4;
@@ -182,7 +182,7 @@ fn call_dup(calls: &[u64], cargs: &[u64], k: usize) -> bool
 // Entry k is good, with the classes after the entries before.
 fn call_entry(calls: &[u64], cargs: &[u64], target: &[u64], cls: &[u64], k: usize) -> bool
     requires { ⌜ k * 4 < length (now calls) ⌝ }
-    requires { ⌜ ArgsWithin (now calls) (now cargs) k ⌝ }
+    requires { ⌜ ArgsInside (now calls) (now cargs) k ⌝ }
     requires { ⌜ length (now cls) ≡ rowCount Graph.Target (now target) ⌝ }
     ensures test { λ b. ⌜ b ≡ callGood (now (calls .entry)) (now (cargs .entry)) (now (target .entry)) (now (cls .entry)) k ⌝ }
 {

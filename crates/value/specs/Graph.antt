@@ -13,7 +13,7 @@ use Rattle.rows.specs.declared.Node.the-variants.{Var}
 use Rattle.rows.specs.Row.{rowCount, rowAt}
 use Rattle.rows.specs.Node.{nodeOf, operands}
 use Rattle.rows.specs.Tags.{tVar}
-use Rattle.value.specs.Val.{Val, val}
+use Rattle.value.specs.Val.{Val, val, nat}
 use Rattle.value.specs.Operate.{operate, tagOf, parameters}
 
 -- a core node's value: its operator applied to the values of its operands, which `look` gives
@@ -34,6 +34,10 @@ valuesTo bits given g n = build (rowValue bits given g) n
 
 abbrev pub value : List ℕ → (ℕ → ℕ) → List ℕ → ℕ → Val
 value bits given g i = getD (valuesTo bits given g (rowCount Target g)) i (val 0 0)
+
+-- the numbers of the first n rows, with the words given for the variables
+abbrev pub numbersTo : List ℕ → List ℕ → List ℕ → ℕ → List ℕ
+numbersTo g bits given n = map nat (valuesTo bits (λ i. getD given i 0) g n)
 
 -- an assignment gives each variable a number below 2 ^ width
 abbrev pub Assigns : (ℕ → ℕ) → List ℕ → Type 0

@@ -6,6 +6,7 @@ use mathlib.Core.List.{List, [], _++_}
 use borrow.Author.Tests.{lt-ltb, le-ltb}
 use lib.Dec.{eqb, ltb}
 use lib.ListN.{length, replicate}
+use Rattle.value.specs.Graph.{numbersTo}
 use Rattle.answers.specs.declared.Answer.{Answer}
 use Rattle.answers.specs.declared.Answer.the-variants.{Accepted, Core, RowCount, BadRow, BadBit, WorkShort, TooWide, ValueCount, ValueRange}
 use Rattle.answers.specs.Answer.{lent, isAccepted}
@@ -18,7 +19,7 @@ use Rattle.rows.specs.Encoding.{badRow, badBit}
 use Rattle.wf.specs.Widths.{illRow, widths, rowWidth}
 use Rattle.widths.specs.Widths.{rowsAnswer}
 use Rattle.values.proofs.Given.{given-tests}
-use Rattle.values.specs.Values.{wideRow, badWord, givenAnswer, valuesAnswer, numbersOf, out, values}
+use Rattle.values.specs.Values.{wideRow, badWord, givenAnswer, valuesAnswer, out, values}
 
 -- a refusal for the rows, and one for the words given, zero a list
 pub rows-zero : (p q r : Bool) (a b d row : ℕ) (old new : List ℕ)
@@ -46,8 +47,8 @@ module _ (g bits given ws vs : List ℕ) where
   -- the outcome is settled by the answer
   settled : (a : Answer) → valuesAnswer g bits given (length ws) (length vs) ≡ a
       → values g bits given ws vs
-      ≡ out a (lent a ws (widths Target (length bits) [] g)) (lent a vs (numbersOf g bits given (rowCount Target g)))
-  settled a e = ap (λ (x : Answer). out x (lent x ws (widths Target (length bits) [] g)) (lent x vs (numbersOf g bits given (rowCount Target g)))) e
+      ≡ out a (lent a ws (widths Target (length bits) [] g)) (lent a vs (numbersTo g bits given (rowCount Target g)))
+  settled a e = ap (λ (x : Answer). out x (lent x ws (widths Target (length bits) [] g)) (lent x vs (numbersTo g bits given (rowCount Target g)))) e
 
   pub values-15 : ragged Target g ≡ true → values g bits given ws vs ≡ out (RowCount 2) ws vs
   values-15 r = settled (RowCount 2) (rw r)
@@ -66,7 +67,7 @@ module _ (g bits given ws vs : List ℕ) where
             ≡ out (rowsAnswer Target g bits (illRow Target (length bits) [] g)) (replicate (length ws) 0) (replicate (length vs) 0)
         values-rows e =
             settled (rowsAnswer Target g bits (illRow Target (length bits) [] g)) (rw (whole, le-ltb _ _ room, le-ltb _ _ room-too, e))
-            ∙ ap₂ (out (rowsAnswer Target g bits (illRow Target (length bits) [] g))) (zero ws (widths Target (length bits) [] g)) (zero vs (numbersOf g bits given (rowCount Target g)))
+            ∙ ap₂ (out (rowsAnswer Target g bits (illRow Target (length bits) [] g))) (zero ws (widths Target (length bits) [] g)) (zero vs (numbersTo g bits given (rowCount Target g)))
           where
             zero : (old new : List ℕ) → lent (rowsAnswer Target g bits (illRow Target (length bits) [] g)) old new ≡ replicate (length old) 0
             zero old new =
@@ -82,16 +83,16 @@ module _ (g bits given ws vs : List ℕ) where
               ≡ out (givenAnswer g (widths Target (length bits) [] g) given) (replicate (length ws) 0) (replicate (length vs) 0)
           values-given e =
               settled (givenAnswer g (widths Target (length bits) [] g) given) answer-is
-              ∙ ap₂ (out (givenAnswer g (widths Target (length bits) [] g) given)) (zero ws (widths Target (length bits) [] g)) (zero vs (numbersOf g bits given (rowCount Target g)))
+              ∙ ap₂ (out (givenAnswer g (widths Target (length bits) [] g) given)) (zero ws (widths Target (length bits) [] g)) (zero vs (numbersTo g bits given (rowCount Target g)))
             where
               zero : (old new : List ℕ) → lent (givenAnswer g (widths Target (length bits) [] g) given) old new ≡ replicate (length old) 0
               zero old new = given-zero (ltb (wideRow (widths Target (length bits) [] g) (rowCount Target g)) (rowCount Target g)) (eqb (length given) (rowCount Target g)) (ltb (badWord g given) (rowCount Target g)) (wideRow (widths Target (length bits) [] g) (rowCount Target g)) (badWord g given) (rowCount Target g) (length given) old new e
 
           pub values-accepted : isAccepted (givenAnswer g (widths Target (length bits) [] g) given) ≡ true
               → values g bits given ws vs
-              ≡ out Accepted (widths Target (length bits) [] g ++ replicate (length ws - rowCount Target g) 0) (numbersOf g bits given (rowCount Target g) ++ replicate (length vs - rowCount Target g) 0)
+              ≡ out Accepted (widths Target (length bits) [] g ++ replicate (length ws - rowCount Target g) 0) (numbersTo g bits given (rowCount Target g) ++ replicate (length vs - rowCount Target g) 0)
           values-accepted e =
               settled Accepted (answer-is ∙ given-yes (ltb (wideRow (widths Target (length bits) [] g) (rowCount Target g)) (rowCount Target g)) (eqb (length given) (rowCount Target g)) (ltb (badWord g given) (rowCount Target g)) (wideRow (widths Target (length bits) [] g) (rowCount Target g)) (badWord g given) (rowCount Target g) (length given) e)
               ∙ ap₂ (out Accepted)
               (ap (λ (n : ℕ). widths Target (length bits) [] g ++ replicate (length ws - n) 0) (build-length (rowWidth Target (length bits) [] g) (rowCount Target g)))
-              (ap (λ (n : ℕ). numbersOf g bits given (rowCount Target g) ++ replicate (length vs - n) 0) (numbers-length g bits given (rowCount Target g)))
+              (ap (λ (n : ℕ). numbersTo g bits given (rowCount Target g) ++ replicate (length vs - n) 0) (numbers-length g bits given (rowCount Target g)))

@@ -6,10 +6,10 @@ use mathlib.Core.List.{List, [], _++_}
 use borrow.Author.Tests.{le-ltb}
 use lib.Dec.{ltb}
 use lib.ListN.{length, replicate, take, drop}
+use Rattle.value.specs.Graph.{numbersTo}
 use Rattle.answers.specs.declared.Answer.{Answer}
 use Rattle.answers.specs.declared.Answer.the-variants.{Accepted, Core, BadRow, BadBit}
 use Rattle.answers.specs.Answer.{lent, isAccepted}
-use Rattle.evaluate.specs.Ready.{numbersTo}
 use Rattle.evaluate.proofs.Rows.{numbers-front}
 use Rattle.lists.proofs.Build.{build-length, build-front}
 use Rattle.rows.specs.declared.Graph.the-variants.{Target}
@@ -17,7 +17,6 @@ use Rattle.rows.specs.Row.{rowCount, ragged}
 use Rattle.rows.specs.Encoding.{badRow, badBit}
 use Rattle.wf.specs.Widths.{illRow, widths, rowWidth}
 use Rattle.widths.specs.Widths.{Out, out, rowsAnswer, targetWidths}
-use Rattle.values.specs.Values.{numbersOf}
 use Rattle.values.proofs.Given.{rows-tests}
 use Rattle.values.proofs.Outcome.{rows-zero}
 
@@ -55,6 +54,6 @@ module _ (g bits ws : List ℕ) (a : Answer) (l : List ℕ) (done : out a l ≡ 
 -- the evaluated list with zeros from row n on
 pub values-list : (g bits given vs l : List ℕ) (n m : ℕ) → n ≡ rowCount Target g → m ≡ rowCount Target g → length l ≡ length vs
     → l ≡ numbersTo g bits given m ++ drop m vs
-    → take n l ++ replicate (length l - n) 0 ≡ numbersOf g bits given (rowCount Target g) ++ replicate (length vs - rowCount Target g) 0
+    → take n l ++ replicate (length l - n) 0 ≡ numbersTo g bits given (rowCount Target g) ++ replicate (length vs - rowCount Target g) 0
 values-list g bits given vs l n m en em el e =
     rw (el, e, em, en) (ap (λ (z : List ℕ). z ++ replicate (length vs - rowCount Target g) 0) (numbers-front g bits given (rowCount Target g) _))

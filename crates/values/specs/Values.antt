@@ -2,7 +2,7 @@
 -- rows than Var are ignored". Assumes nothing.
 use Prim.Native.Nat.{ℕ, _^_}
 use mathlib.Core.Bool.{Bool, false, cond, not}
-use mathlib.Core.List.{List, [], map}
+use mathlib.Core.List.{List, []}
 use lib.Dec.{eqb, ltb}
 use lib.ListN.{length, getD}
 use Rattle.answers.specs.declared.Answer.{Answer}
@@ -12,8 +12,7 @@ use Rattle.lists.specs.First.{first}
 use Rattle.rows.specs.declared.Graph.the-variants.{Target}
 use Rattle.rows.specs.Row.{graphNumber, rowCount, ragged, rowAt}
 use Rattle.rows.specs.Tags.{tVar}
-use Rattle.value.specs.Val.{nat}
-use Rattle.value.specs.Graph.{valuesTo}
+use Rattle.value.specs.Graph.{numbersTo}
 use Rattle.wf.specs.Widths.{illRow, widths}
 use Rattle.widths.specs.Widths.{rowsAnswer}
 
@@ -46,10 +45,6 @@ valuesAnswer g bits given room room-too =
     (cond (ltb room-too (rowCount Target g)) (WorkShort 2)
     (andThen (rowsAnswer Target g bits (illRow Target (length bits) [] g)) (givenAnswer g (widths Target (length bits) [] g) given))))
 
--- the numbers of all rows, with the words given for the variables
-abbrev pub numbersOf : List ℕ → List ℕ → List ℕ → ℕ → List ℕ
-numbersOf g bits given n = map nat (valuesTo bits (λ i. getD given i 0) g n)
-
 -- an answer and what stands in both lists afterwards
 pub record Out : Type 0 where
   pub answer : Answer
@@ -63,4 +58,4 @@ out a ws vs = record { answer = a; widths = ws; values = vs }
 abbrev pub values : List ℕ → List ℕ → List ℕ → List ℕ → List ℕ → Out
 values g bits given ws vs =
     let a = valuesAnswer g bits given (length ws) (length vs) in
-    out a (lent a ws (widths Target (length bits) [] g)) (lent a vs (numbersOf g bits given (rowCount Target g)))
+    out a (lent a ws (widths Target (length bits) [] g)) (lent a vs (numbersTo g bits given (rowCount Target g)))

@@ -10,7 +10,8 @@ use Rattle.lists.proofs.First.{first-at, first-none, first-before, first-hit}
 use Rattle.rows.specs.declared.Graph.{Graph}
 use Rattle.rows.specs.Row.{rowCount, rowAt}
 use Rattle.rows.specs.Encoding.{rowGood, rowBad, badRow}
-use Rattle.wf.specs.Widths.{rowWidth, widthsTo, goodWidth, rowIll, illRow, rowStops, stopRow}
+use Rattle.wf.specs.Widths.{rowWidth, widthsTo, rowIll, illRow}
+use Rattle.wf.specs.Pass.{goodWidth, rowStops, stopRow}
 
 -- a pair of tests in one: passed over, both fail
 both-pass : (b : Bool) (w : ℕ) → eqb (cond b w 0) 0 ≡ false → (not b ≡ false) × (eqb w 0 ≡ false)

@@ -1,3 +1,4 @@
 pub mod Rule
 pub mod Widths
+pub mod Pass
 pub mod Promise

@@ -1,6 +1,6 @@
 -- The widths of a graph's rows, in order, and its first ill-formed row. Assumes nothing.
 use Prim.Native.Nat.{ℕ}
-use mathlib.Core.Bool.{Bool, cond, not}
+use mathlib.Core.Bool.{Bool, not}
 use mathlib.Core.List.{List}
 use lib.Dec.{eqb}
 use lib.ListN.{length, getD}
@@ -9,7 +9,6 @@ use Rattle.lists.specs.Build.{build}
 use Rattle.rows.specs.declared.Graph.{Graph}
 use Rattle.rows.specs.Row.{rowCount, rowAt}
 use Rattle.rows.specs.Node.{nodeOf}
-use Rattle.rows.specs.Encoding.{rowGood}
 use Rattle.wf.specs.Rule.{nodeWidth, hasWidth}
 
 -- the width of row i after rows of widths ws
@@ -30,17 +29,6 @@ illRow graph nbits side g = first (rowIll graph nbits side g) (rowCount graph g)
 -- the widths of all rows
 abbrev pub widths : Graph → ℕ → List ℕ → List ℕ → List ℕ
 widths graph nbits side g = widthsTo graph nbits side g (rowCount graph g)
-
--- one pass looks for badly encoded and ill-formed rows together: a row's width, 0 where it is either
-abbrev pub goodWidth : Graph → ℕ → List ℕ → List ℕ → ℕ → List ℕ → ℕ
-goodWidth graph nbits side g i ws = cond (rowGood graph (rowAt graph g i)) (rowWidth graph nbits side g i ws) 0
-
-abbrev pub rowStops : Graph → ℕ → List ℕ → List ℕ → ℕ → Bool
-rowStops graph nbits side g i = eqb (goodWidth graph nbits side g i (widthsTo graph nbits side g i)) 0
-
--- the first row that is badly encoded or ill-formed, or the number of rows
-abbrev pub stopRow : Graph → ℕ → List ℕ → List ℕ → ℕ
-stopRow graph nbits side g = first (rowStops graph nbits side g) (rowCount graph g)
 
 -- 19: "a row past the widths or a width not 1"
 abbrev pub rootBad : List ℕ → List ℕ → ℕ → Bool

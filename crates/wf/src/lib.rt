@@ -7,7 +7,8 @@ ghost use Rattle.lists.specs.First.{none};
 ghost use Rattle.rows.specs.Row.{rowCount};
 ghost use Rattle.rows.specs.declared.Node.{Node};
 ghost use Rattle.wf.specs.Rule.{capped, unWidth, binWidth, extractWidth, iteWidth, hasWidth, pairBad, chainGood, argBad, argsGood, nodeWidth};
-ghost use Rattle.wf.specs.Widths.{widthsTo, goodWidth, stopRow, badRoot};
+ghost use Rattle.wf.specs.Widths.{widthsTo, badRoot};
+ghost use Rattle.wf.specs.Pass.{goodWidth, stopRow};
 use rows::Graph;
 use rows::Node;
 

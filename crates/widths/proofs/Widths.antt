@@ -15,7 +15,8 @@ use Rattle.rows.specs.declared.Graph.{Graph}
 use Rattle.rows.specs.declared.Graph.the-variants.{Source, Target}
 use Rattle.rows.specs.Row.{graphNumber, rowCount, ragged}
 use Rattle.rows.specs.Encoding.{badRow, badBit}
-use Rattle.wf.specs.Widths.{illRow, stopRow, widths, widthsTo, rowWidth}
+use Rattle.wf.specs.Widths.{illRow, widths, widthsTo, rowWidth}
+use Rattle.wf.specs.Pass.{stopRow}
 use Rattle.wf.proofs.Stop.{stop-none, stop-ill}
 use Rattle.widths.specs.Widths.{out, illFormed, rowsAnswer, graphWidths}
 

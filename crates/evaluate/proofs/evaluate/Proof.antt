@@ -6,7 +6,7 @@ use native.Mathlib.Omega.{arith}
 use borrow.Author.Needs.{needs}
 use lib.ListN.{length, take, drop, length-set}
 use lib.Seq.{length-take-le}
-use Rattle.evaluate.specs.Ready.{numbersTo}
+use Rattle.value.specs.Graph.{numbersTo}
 use Rattle.evaluate.proofs.Rows.{numbers-length, numbers-start, numbers-front, numbers-store, row-ready, row-number}
 use Rattle.evaluate.proofs.evaluate.Statement.{statement}
 use Rattle.evaluate.proofs.evaluate.Tie as tie

@@ -9,7 +9,7 @@ use Rattle.answers.specs.Answer.{isAccepted}
 use Rattle.rows.specs.declared.Graph.the-variants.{Source, Target}
 use Rattle.rows.specs.Row.{rowCount}
 use Rattle.wf.proofs.Stop.{stop-good}
-use Rattle.wf.specs.Widths.{stopRow}
+use Rattle.wf.specs.Pass.{stopRow}
 use Rattle.lowering.specs.Check.{firstRefusal, graphAnswers}
 use Rattle.stages.proofs.Form.{stop-le, graphs-stop, source-settles, no-stop-source, no-stop-target, widths-all}
 use borrow.Author.Needs.{needs}

@@ -13,7 +13,8 @@ use lib.Seq.{length-take-le}
 use Rattle.lists.proofs.First.{first-at, first-past}
 use Rattle.lists.proofs.Build.{build-start, build-front, build-store}
 use Rattle.wf.proofs.Stop.{good-width}
-use Rattle.wf.specs.Widths.{rowWidth, goodWidth, widthsTo, rowStops}
+use Rattle.wf.specs.Widths.{rowWidth, widthsTo}
+use Rattle.wf.specs.Pass.{goodWidth, rowStops}
 use Rattle.wf.proofs.graph_wf.Statement.{statement}
 use Rattle.wf.proofs.graph_wf.Tie as tie
 

@@ -5,7 +5,7 @@ use lib.ListN.{length}
 use Rattle.answers.specs.declared.Answer.the-variants.{Accepted}
 use Rattle.lists.proofs.First.{first-le}
 use Rattle.rows.specs.Row.{rowCount}
-use Rattle.wf.specs.Widths.{rowStops}
+use Rattle.wf.specs.Pass.{rowStops}
 use Rattle.wf.proofs.Stop.{stop-good}
 use Rattle.widths.specs.Widths.{out}
 use Rattle.widths.proofs.Widths.{widths-15, widths-17, widths-18, widths-stop, widths-accepted, accepted-list}
