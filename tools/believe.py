@@ -82,23 +82,23 @@ def specs():
 
 def closure(statements):
     defined, used = specs()
-    todo = [names[name] for name in statements for names in defined.values() if name in names]
+    left = [names[name] for name in statements for names in defined.values() if name in names]
     missing = [name for name in statements if not any(name in names for names in defined.values())]
     if missing:
         sys.exit(f"no definition in specs/: {', '.join(missing)}")
     seen = {}
-    while todo:
-        block = todo.pop()
+    while left:
+        block = left.pop()
         if (block.path, block.at) in seen:
             continue
         seen[block.path, block.at] = block
         here = (block.crate, block.module)
-        todo += [other for name, other in defined[here].items() if name in block.words]
+        left += [other for name, other in defined[here].items() if name in block.words]
         for crate, module, what in used[here]:
             for name in re.split(r",\s*", what):
                 name = name.split(" as ")[0]
                 if name in block.words and name in defined.get((crate, module), {}):
-                    todo.append(defined[crate, module][name])
+                    left.append(defined[crate, module][name])
     return seen.values()
 
 
