@@ -11,7 +11,7 @@ use Rattle.rows.specs.declared.Graph.the-variants.{Target}
 use Rattle.rows.specs.declared.Node.the-variants.{Var}
 use Rattle.rows.specs.Row.{rowCount, rowAt}
 use Rattle.rows.specs.Tags.{tVar}
-use Rattle.wf.specs.Rule.{indexWidth, cellWidth, hasWidth}
+use Rattle.rules.specs.Rule.{indexWidth, cellWidth, hasWidth}
 use Rattle.lowering.specs.Images.{rowIs, tagAt}
 
 -- "reads in threes (variable row, array, index row)"; a cut entry counts as one

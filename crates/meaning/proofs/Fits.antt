@@ -18,7 +18,7 @@ use Rattle.rows.specs.Encoding.{badBit}
 use Rattle.rows.specs.Node.{nodeOf, TagGood}
 use Rattle.rows.proofs.Tags.{un-tags, extend-tags, node-good}
 use Rattle.rows.proofs.Encoding.{clean}
-use Rattle.wf.specs.Rule.{cellWidth}
+use Rattle.rules.specs.Rule.{cellWidth}
 use Rattle.wf.specs.Promise.{RowFormed, WellFormed}
 use Rattle.wf.specs.Widths.{illRow, widths}
 use Rattle.wf.proofs.Promise.{well-formed}

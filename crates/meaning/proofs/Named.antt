@@ -21,7 +21,7 @@ use Rattle.rows.specs.Row.{rowCount, rowAt}
 use Rattle.rows.specs.Tags.{tVar}
 use Rattle.rows.specs.Node.{nodeOf, TagGood}
 use Rattle.rows.proofs.Tags.{un-tags, extend-tags, node-good}
-use Rattle.wf.specs.Rule.{cellWidth}
+use Rattle.rules.specs.Rule.{cellWidth}
 use Rattle.wf.specs.Promise.{RowFormed, WellFormed}
 use Rattle.value.specs.Val.{Val, val, wid, arg}
 use Rattle.meaning.specs.Meaning.{Interpretation, OfKind, sourceNode, sourceRow, sourceValues, sourceValue, isTrue, RootsTrue, SourceSatisfiable}

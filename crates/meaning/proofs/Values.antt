@@ -15,7 +15,7 @@ use Rattle.rows.specs.Row.{rowCount, rowAt}
 use Rattle.rows.specs.Tags.{tVar, isUn, isExtend}
 use Rattle.rows.specs.Node.{nodeOf, operands, TagGood}
 use Rattle.rows.proofs.Tags.{un-tags, extend-tags, node-good}
-use Rattle.wf.specs.Rule.{indexWidth, cellWidth}
+use Rattle.rules.specs.Rule.{indexWidth, cellWidth}
 use Rattle.wf.specs.Promise.{Below, PairFormed, RowFormed, WellFormed}
 use Rattle.value.specs.Val.{Val, val, wid}
 use Rattle.value.specs.Operate.{tagOf}

@@ -15,7 +15,7 @@ use Rattle.rows.specs.Row.{rowCount, rowAt}
 use Rattle.rows.specs.Node.{nodeOf}
 use Rattle.value.specs.Val.{Val, val, nat}
 use Rattle.value.specs.Graph.{nodeValue, value, Assigns}
-use Rattle.wf.specs.Rule.{cellWidth}
+use Rattle.rules.specs.Rule.{cellWidth}
 
 -- "An interpretation of a source gives each Var row, array and function symbol in it a value of its kind". An array gives a cell to each
 -- index; a function symbol is its number, result width, and the count and widths of its arguments, which the list of values holds

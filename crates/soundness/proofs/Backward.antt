@@ -17,7 +17,7 @@ use Rattle.rows.specs.declared.Graph.the-variants.{Target}
 use Rattle.rows.specs.declared.Node.the-variants.{Var}
 use Rattle.rows.specs.Row.{rowAt}
 use Rattle.rows.specs.Tags.{tConst}
-use Rattle.wf.specs.Rule.{indexWidth, cellWidth}
+use Rattle.rules.specs.Rule.{indexWidth, cellWidth}
 use Rattle.value.specs.Val.{Val, val, wid, nat}
 use Rattle.value.specs.Operate.{operate, constNumber}
 use Rattle.value.specs.Graph.{Assigns}

@@ -12,7 +12,7 @@ use Rattle.rows.specs.declared.Node.the-variants.{Var, Const, Un, Bin, Extract,
 use Rattle.rows.specs.Row.{rowAt}
 use Rattle.rows.specs.Tags.{tVar}
 use Rattle.rows.specs.Node.{nodeOf, operands}
-use Rattle.wf.specs.Rule.{indexWidth, cellWidth}
+use Rattle.rules.specs.Rule.{indexWidth, cellWidth}
 use Rattle.wf.specs.Promise.{WellFormed}
 use Rattle.value.specs.Operate.{tagOf, parameters}
 use Rattle.lowering.specs.declared.Walk.{Walk}

@@ -16,7 +16,7 @@ use Rattle.rows.specs.declared.Graph.the-variants.{Source, Target}
 use Rattle.rows.specs.declared.Node.the-variants.{Var}
 use Rattle.rows.specs.Row.{rowAt}
 use Rattle.rows.specs.Tags.{tVar}
-use Rattle.wf.specs.Rule.{cellWidth}
+use Rattle.rules.specs.Rule.{cellWidth}
 use Rattle.value.specs.Val.{Val, val, wid, nat}
 use Rattle.value.specs.Graph.{Assigns}
 use Rattle.value.proofs.Tagged.{node-var}

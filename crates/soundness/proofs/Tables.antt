@@ -15,7 +15,7 @@ use Rattle.lists.proofs.Tests.{all-true}
 use Rattle.rows.specs.declared.Graph.the-variants.{Target}
 use Rattle.rows.specs.declared.Node.the-variants.{Var}
 use Rattle.rows.specs.Row.{rowAt}
-use Rattle.wf.specs.Rule.{indexWidth, cellWidth, hasWidth}
+use Rattle.rules.specs.Rule.{indexWidth, cellWidth, hasWidth}
 use Rattle.wf.specs.Widths.{rowWidth}
 use Rattle.lowering.specs.Images.{fieldAt}
 use Rattle.lowering.specs.Tables.{readCount, readVar, readArray, readIndex, callCount, callVar, callStart, argCount, callArg, readGood, callGood, readClasses, callClasses, readOffsets}

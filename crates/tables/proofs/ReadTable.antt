@@ -10,7 +10,7 @@ use Rattle.lists.specs.Tests.{all}
 use Rattle.lists.proofs.Tests.{all-true}
 use Rattle.rows.specs.declared.Graph.the-variants.{Target}
 use Rattle.rows.specs.Row.{rowCount}
-use Rattle.wf.specs.Rule.{hasWidth}
+use Rattle.rules.specs.Rule.{hasWidth}
 use Rattle.lowering.specs.Tables.{readVar, readArray, readIndex, sameRead, readGood}
 use Rattle.tables.specs.Entries.{freeWide, readIs}
 use Rattle.tables.proofs.Order.{fails, passes, three, alone}

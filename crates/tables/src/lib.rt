@@ -10,8 +10,8 @@ ghost use Rattle.lowering.specs.Tables.{readCount, callCount, sameRead, sameCal
 ghost use Rattle.lowering.specs.Tables.{callOffsets, badRead, badCall};
 ghost use Rattle.tables.specs.Entries.{freeWide, freeAny, readIs, ArgsInside, argsIn, argsEq, callIs};
 use rows::Graph;
-use wf::CELL_WIDTH;
-use wf::INDEX_WIDTH;
+use rules::CELL_WIDTH;
+use rules::INDEX_WIDTH;
 
 // Row v is a Var of width w in class 0.
 fn free_wide(target: &[u64], cls: &[u64], w: u64, v: u64) -> bool
@@ -67,7 +67,7 @@ fn read_entry(reads: &[u64], target: &[u64], ws: &[u64], cls: &[u64], k: usize) 
     if !free_wide(target, cls, CELL_WIDTH, reads[off]) {
         return false;
     }
-    if !wf::has_width(ws, reads[off + 2], INDEX_WIDTH) {
+    if !sides::has_width(ws, reads[off + 2], INDEX_WIDTH) {
         return false;
     }
     !read_dup(reads, k)
@@ -129,7 +129,7 @@ fn args_in_range(cargs: &[u64], s: u64, k: u64, n: u64) -> bool
     if m - s < k {
         return false;
     }
-    wf::list_wf(n, cargs, s as usize, k as usize)
+    sides::list_wf(n, cargs, s as usize, k as usize)
 }
 
 // The k arguments from s on are those from t on.

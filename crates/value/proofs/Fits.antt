@@ -13,7 +13,7 @@ use Rattle.bv.proofs.Fits.{neg-fits}
 use Rattle.bitwise.proofs.Fits.{not-fits, and-fits, or-fits, xor-fits, shl-fits, lshr-fits, ashr-fits, rotr-fits, rotl-fits}
 use Rattle.divide.proofs.Fits.{udiv-fits, urem-fits, sdiv-fits, srem-fits}
 use Rattle.lists.proofs.Choice.{taken}
-use Rattle.wf.specs.Rule.{same}
+use Rattle.rules.specs.Rule.{same}
 use Rattle.value.specs.Val.{Val, wid, nat, arg, Fit}
 use Rattle.value.specs.Operate.{numbers, opWidth, operate}
 

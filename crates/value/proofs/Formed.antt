@@ -19,7 +19,7 @@ use Rattle.rows.specs.Row.{rowCount, rowAt}
 use Rattle.rows.specs.Tags.{tVar, tConst, tExtract, tNot, isUn, isExtend}
 use Rattle.rows.specs.Node.{nodeOf, operands, TagGood}
 use Rattle.rows.proofs.Tags.{extend-tags, node-good}
-use Rattle.wf.specs.Rule.{same, unWidth}
+use Rattle.rules.specs.Rule.{same, unWidth}
 use Rattle.wf.specs.Promise.{RowFormed, WellFormed}
 use Rattle.value.specs.Val.{Val, val, wid, arg, Fit}
 use Rattle.value.specs.Operate.{operate, tagOf, parameters}

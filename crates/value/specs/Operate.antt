@@ -12,7 +12,7 @@ use Rattle.bv.specs.Bits.{ofBits}
 use Rattle.rows.specs.declared.Node.{Node}
 use Rattle.rows.specs.declared.Node.the-variants.{Var, Const, Un, Bin, Extract, Extend, Ite, Select, Call, Unknown}
 use Rattle.rows.specs.Tags.{tVar, tConst, tExtract, tIte, tSelect, tCall, isUn, isExtend}
-use Rattle.wf.specs.Rule.{unWidth, binWidth, extractWidth, iteWidth}
+use Rattle.rules.specs.Rule.{unWidth, binWidth, extractWidth, iteWidth}
 use Rattle.value.specs.Val.{Val, val, wid, nat, arg}
 
 -- operators of one, two and three operands, over the first operand's width

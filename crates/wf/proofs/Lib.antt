@@ -1,3 +1,2 @@
-pub mod Rule
 pub mod Stop
 pub mod Promise

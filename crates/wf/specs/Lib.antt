@@ -1,4 +1,3 @@
-pub mod Rule
 pub mod Widths
 pub mod Pass
 pub mod Promise

@@ -10,7 +10,7 @@ use Rattle.rows.specs.declared.Node.the-variants.{Var, Const, Un, Bin, Extract,
 use Rattle.rows.specs.Row.{rowCount, rowAt}
 use Rattle.rows.specs.Tags.{tConcat, tNot, isBool}
 use Rattle.rows.specs.Node.{nodeOf, operands}
-use Rattle.wf.specs.Rule.{ceiling, indexWidth, cellWidth, binWidth}
+use Rattle.rules.specs.Rule.{ceiling, indexWidth, cellWidth, binWidth}
 
 -- every row of a list is below n
 abbrev pub Below : ℕ → List ℕ → Type 0

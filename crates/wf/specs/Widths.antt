@@ -9,7 +9,7 @@ use Rattle.lists.specs.Build.{build}
 use Rattle.rows.specs.declared.Graph.{Graph}
 use Rattle.rows.specs.Row.{rowCount, rowAt}
 use Rattle.rows.specs.Node.{nodeOf}
-use Rattle.wf.specs.Rule.{nodeWidth, hasWidth}
+use Rattle.rules.specs.Rule.{nodeWidth, hasWidth}
 
 -- the width of row i after rows of widths ws
 abbrev pub rowWidth : Graph → ℕ → List ℕ → List ℕ → ℕ → List ℕ → ℕ
