@@ -1,4 +1,5 @@
 pub mod Row
 pub mod Tags
 pub mod Node
+pub mod Decoded
 pub mod Encoding

@@ -1,5 +1,6 @@
 -- The stretch of tags that a tag lies in. Assumes nothing.
 use Rattle.operate.proofs.Tag.{past-const, past-ite, past-not, past-neg}
+use Rattle.rows.proofs.View.{node-two}
 use borrow.Author.Needs.{needs}
 use Rattle.operate.proofs.even_value.Statement.{statement}
 use Rattle.operate.proofs.even_value.Tie as tie
@@ -49,7 +50,7 @@ returns-6 c = search needs
 others-requires : tie.Need-others-requires
 others-requires c κs =
     let g = c .before .before .before .before .before .before .pre in
-    (past-neg _ (g .0) (c .if6 .left), g .0 .core, g .2)
+    (past-neg _ (g .0) (c .if6 .left), node-two _ (g .0) .core, g .2)
 
 returns-7 : tie.Need-returns-7
 returns-7 c = search needs
