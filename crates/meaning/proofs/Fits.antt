@@ -1,7 +1,7 @@
 -- In a well-formed source, under an interpretation of its kind, every row's value has the row's width and lies below 2 ^ width: core rows as in a
 -- target, a Select by its pairs' rows or the cell, a Call by its result. Assumes nothing.
 use Prim.Native.Nat.{ℕ, zero, suc, _+_, _*_, _<_, _≤_, _^_}
-use mathlib.Core.Path.{_≡_, refl, sym, ap, _∙_, subst}
+use mathlib.Core.Path.{_≡_, sym, ap, _∙_, subst}
 use mathlib.Core.Bool.{Bool, true, false, cond}
 use mathlib.Core.List.{List}
 use native.Mathlib.Decide.{decLt}
@@ -14,11 +14,11 @@ use Rattle.rows.specs.declared.Graph.the-variants.{Source}
 use Rattle.rows.specs.declared.Node.{Node}
 use Rattle.rows.specs.declared.Node.the-variants.{Var, Const, Un, Bin, Extract, Extend, Ite, Select, Call, Unknown}
 use Rattle.rows.specs.Row.{rowCount, rowAt}
-use Rattle.rows.specs.Encoding.{badBit}
+use Rattle.encoding.specs.Encoding.{badBit}
 use Rattle.rows.specs.Node.{nodeOf}
 use Rattle.rows.proofs.Tags.{un-tags, extend-tags}
 use Rattle.rows.proofs.View.{TagGood, node-good}
-use Rattle.rows.proofs.Encoding.{clean}
+use Rattle.encoding.proofs.Encoding.{clean}
 use Rattle.rules.specs.Rule.{cellWidth}
 use Rattle.wf.specs.Promise.{RowFormed, WellFormed}
 use Rattle.wf.specs.Widths.{illRow, widths}

@@ -1,3 +1,2 @@
 pub mod Tags
 pub mod View
-pub mod Encoding

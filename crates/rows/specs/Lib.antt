@@ -2,4 +2,3 @@ pub mod Row
 pub mod Tags
 pub mod Node
 pub mod Decoded
-pub mod Encoding

@@ -11,7 +11,7 @@ use Rattle.rows.specs.declared.Graph.the-variants.{Target}
 use Rattle.rows.specs.declared.Node.{Node}
 use Rattle.rows.specs.declared.Node.the-variants.{Var}
 use Rattle.rows.specs.Row.{rowCount, rowAt}
-use Rattle.rows.specs.Encoding.{rowGood, rowBad, badRow}
+use Rattle.encoding.specs.Encoding.{rowGood, rowBad, badRow}
 use Rattle.rows.specs.Tags.{tVar}
 use Rattle.rows.specs.Node.{nodeOf}
 use Rattle.rows.proofs.View.{View, is-var, is-const, is-extract, is-extend, is-ite, is-un, is-select, is-call, is-bin, is-unknown, view-of, var-viewed}

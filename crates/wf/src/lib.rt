@@ -1,10 +1,9 @@
 // Well-formedness of a graph: each row against the widths of the rows before it.
 ghost use mathlib.Core.Path.{_≡_};
-ghost use mathlib.Core.List.{[], _++_};
+ghost use mathlib.Core.List.{_++_};
 ghost use Prim.Native.Nat.{_<_, _≤_};
 ghost use lib.ListN.{length, drop};
 ghost use Rattle.rows.specs.Row.{rowCount};
-ghost use Rattle.rows.specs.declared.Node.{Node};
 ghost use Rattle.rules.specs.Rule.{nodeWidth};
 ghost use Rattle.wf.specs.Widths.{widthsTo, badRoot};
 ghost use Rattle.wf.specs.Pass.{goodWidth, stopRow};
@@ -35,7 +34,7 @@ fn row_width(graph: Graph, g: &[u64], i: usize, nbits: u64, side: &[u64], ws: &[
     ensures width { λ r. ⌜ r ≡ goodWidth graph nbits (now (side .entry)) (now (g .entry)) i (now (ws .entry)) ⌝ }
 {
     let r = rows::row(graph, g, i);
-    if !rows::row_good(graph, r) {
+    if !encoding::row_good(graph, r) {
         return 0;
     }
     let node = rows::decode(r);

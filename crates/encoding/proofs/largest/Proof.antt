@@ -1,12 +1,12 @@
--- `rows::largest` meets its contract: no byte passed is above the largest so far. Assumes nothing.
+-- Invariant: no byte below i is above the largest so far. Assumes nothing.
 use Prim.Native.Nat.{ℕ, _≤_, _<_, _-_}
 use native.Mathlib.Nat.{not-suc-le-zero, le-trans}
 use native.Mathlib.Omega.{arith}
 use borrow.Author.Count.{below-more}
 use borrow.Author.Needs.{needs}
 use lib.ListN.{length, getD}
-use Rattle.rows.proofs.largest.Statement.{statement}
-use Rattle.rows.proofs.largest.Tie as tie
+use Rattle.encoding.proofs.largest.Statement.{statement}
+use Rattle.encoding.proofs.largest.Tie as tie
 
 abbrev Inv-loop : tie.InvT-loop
 Inv-loop bits most₀ i₀ most i = (i ≤ length bits) × ((j : ℕ) → j < i → getD bits j 0 ≤ most)

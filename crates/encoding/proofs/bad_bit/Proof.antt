@@ -1,12 +1,12 @@
--- `rows::bad_bit` meets its contract: where no byte is above 1 the search finds none. Assumes nothing.
+-- Where the largest byte is at most 1 the search finds none. Assumes nothing.
 use mathlib.Core.Path.{sym}
 use native.Mathlib.Nat.{le-trans}
 use borrow.Author.Tests.{le-ltb}
 use Rattle.lists.proofs.First.{first-none}
-use Rattle.rows.specs.Encoding.{bitBad}
+use Rattle.encoding.specs.Encoding.{bitBad}
 use borrow.Author.Needs.{needs}
-use Rattle.rows.proofs.bad_bit.Statement.{statement}
-use Rattle.rows.proofs.bad_bit.Tie as tie
+use Rattle.encoding.proofs.bad_bit.Statement.{statement}
+use Rattle.encoding.proofs.bad_bit.Tie as tie
 
 largest-requires : tie.Need-largest-requires
 largest-requires c κs = search needs

@@ -1,7 +1,7 @@
--- `rows::field_good` meets its contract. Assumes nothing.
+-- A used field passes, another only as 0. Assumes nothing.
 use borrow.Author.Tests.{lt-ltb, le-ltb}
-use Rattle.rows.proofs.field_good.Statement.{statement}
-use Rattle.rows.proofs.field_good.Tie as tie
+use Rattle.encoding.proofs.field_good.Statement.{statement}
+use Rattle.encoding.proofs.field_good.Tie as tie
 
 returns : tie.Need-returns
 returns c = simp (lt-ltb _ _ (c .if1 .taken))

@@ -6,7 +6,7 @@ use borrow.Author.Tests.{ltb-false}
 use lib.ListN.{length, getD}
 use Rattle.lists.proofs.First.{first-before}
 use Rattle.lists.proofs.Tests.{getD-every}
-use Rattle.rows.specs.Encoding.{bitBad, badBit}
+use Rattle.encoding.specs.Encoding.{bitBad, badBit}
 
 -- bits, and 0 past its end
 pub clean : (bits : List ℕ) → length bits ≤ badBit bits → (k : ℕ) → getD bits k 0 < 2

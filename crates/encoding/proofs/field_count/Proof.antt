@@ -1,7 +1,7 @@
--- `rows::field_count` meets its contract. Assumes nothing.
+-- Each arm is the definition's choice at its tag; the last has the tags of no other arm. Assumes nothing.
 use borrow.Author.Tests.{ne-eqb, lt-ltb, le-ltb}
-use Rattle.rows.proofs.field_count.Statement.{statement}
-use Rattle.rows.proofs.field_count.Tie as tie
+use Rattle.encoding.proofs.field_count.Statement.{statement}
+use Rattle.encoding.proofs.field_count.Tie as tie
 
 returns : tie.Need-returns
 returns c = simp (le-ltb _ _ (c .if1 .taken))

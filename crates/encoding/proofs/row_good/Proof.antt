@@ -1,9 +1,9 @@
--- `rows::row_good` meets its contract: each return is a path through the definition's tests. Assumes nothing.
+-- Each return is a path through the definition's tests, in their order. Assumes nothing.
 use mathlib.Core.Path.{_∙_, sym}
 use borrow.Author.Tests.{lt-ltb, le-ltb, not-true, not-false}
 use borrow.Author.Needs.{needs}
-use Rattle.rows.proofs.row_good.Statement.{statement}
-use Rattle.rows.proofs.row_good.Tie as tie
+use Rattle.encoding.proofs.row_good.Statement.{statement}
+use Rattle.encoding.proofs.row_good.Tie as tie
 
 array-read-t : tie.Need-array-read-t
 array-read-t c = search needs

@@ -1,4 +1,4 @@
--- `rows::first_bad_bit` meets its contract: the loop is the search `first`. Assumes nothing.
+-- Invariant: no byte below i is above 1; the search `first`. Assumes nothing.
 use native.Mathlib.Nat.{not-suc-le-zero}
 use Prim.Native.Nat.{ℕ, _≤_, _<_, _-_}
 use mathlib.Core.Path.{_≡_, sym}
@@ -8,9 +8,9 @@ use borrow.Author.Needs.{needs}
 use borrow.Author.Tests.{lt-ltb, le-ltb}
 use lib.ListN.{length}
 use Rattle.lists.proofs.First.{first-at, first-past}
-use Rattle.rows.specs.Encoding.{bitBad}
-use Rattle.rows.proofs.first_bad_bit.Statement.{statement}
-use Rattle.rows.proofs.first_bad_bit.Tie as tie
+use Rattle.encoding.specs.Encoding.{bitBad}
+use Rattle.encoding.proofs.first_bad_bit.Statement.{statement}
+use Rattle.encoding.proofs.first_bad_bit.Tie as tie
 
 abbrev Inv-loop : tie.InvT-loop
 Inv-loop bits i₀ i = (i ≤ length bits) × ((j : ℕ) → j < i → bitBad bits j ≡ false)

@@ -1,13 +1,13 @@
--- `rows::bad_row` meets its contract: the loop is the search `first`, begun at `from`. Assumes nothing.
+-- Invariant: no row below i is bad; the search `first`, begun at `from`. Assumes nothing.
 use Prim.Native.Nat.{ℕ, _≤_, _<_, _-_}
 use mathlib.Core.Path.{_≡_, sym}
 use mathlib.Core.Bool.{false}
 use borrow.Author.Count.{below-more}
 use borrow.Author.Needs.{needs}
 use Rattle.lists.proofs.First.{first-at, first-past}
-use Rattle.rows.specs.Encoding.{rowBad}
-use Rattle.rows.proofs.bad_row.Statement.{statement}
-use Rattle.rows.proofs.bad_row.Tie as tie
+use Rattle.encoding.specs.Encoding.{rowBad}
+use Rattle.encoding.proofs.bad_row.Statement.{statement}
+use Rattle.encoding.proofs.bad_row.Tie as tie
 
 abbrev Inv-loop : tie.InvT-loop
 Inv-loop graph g from n i₀ i = (i ≤ n) × ((j : ℕ) → j < i → rowBad graph g j ≡ false)
