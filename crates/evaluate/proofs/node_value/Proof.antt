@@ -1,4 +1,4 @@
--- `evaluate::node_value` meets its contract. Assumes nothing.
+-- Each arm: what a ready row gives its operator, then the operator's number; Select, Call and Unknown are no core nodes. Assumes nothing.
 use Prim.Native.Nat.{_<_}
 use mathlib.Core.Path.{_∙_, sym}
 use native.Mathlib.Omega.{arith}

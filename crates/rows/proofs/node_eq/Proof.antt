@@ -1,4 +1,4 @@
--- `rows::node_eq` meets its contract: each return is a path through the definition's tests. Assumes nothing.
+-- Each return is a path through the definition's tests, in their order. Assumes nothing.
 use borrow.Author.Tests.{eq-eqb, ne-eqb}
 use borrow.Author.Needs.{needs}
 use Rattle.rows.proofs.node_eq.Statement.{statement}

@@ -1,4 +1,4 @@
--- `rows::node_from` meets its contract: an arm is the definition's choice at its tag. Assumes nothing.
+-- Each arm is the definition's choice at its tag; past all of them the tests left decide. Assumes nothing.
 use borrow.Author.Tests.{ne-eqb, lt-ltb, le-ltb}
 use Rattle.rows.proofs.node_from.Statement.{statement}
 use Rattle.rows.proofs.node_from.Tie as tie

@@ -1,4 +1,4 @@
--- `rules::bin_row` meets its contract. Assumes nothing.
+-- Both operands are earlier, then the rule on their widths. Assumes nothing.
 use borrow.Author.Tests.{lt-ltb, le-ltb}
 use borrow.Author.Needs.{needs}
 use Rattle.rules.proofs.bin_row.Statement.{statement}

@@ -1,4 +1,4 @@
--- `rules::extend_row` meets its contract. Assumes nothing.
+-- The operand is earlier, then the sum. Assumes nothing.
 use borrow.Author.Tests.{lt-ltb, le-ltb}
 use borrow.Author.Needs.{needs}
 use Rattle.rules.proofs.extend_row.Statement.{statement}

@@ -1,4 +1,4 @@
--- `rules::ite_row` meets its contract. Assumes nothing.
+-- All three operands are earlier, then the rule on their widths. Assumes nothing.
 use borrow.Author.Tests.{lt-ltb, le-ltb}
 use borrow.Author.Needs.{needs}
 use Rattle.rules.proofs.ite_row.Statement.{statement}
