@@ -58,7 +58,11 @@ view t a b c d =
     Here : Node → Type 0
     Here = View t a b c d
 
-pub view-of : (r : List ℕ) → View (getD r 0 0) (getD r 1 0) (getD r 2 0) (getD r 3 0) (getD r 4 0) (nodeOf r)
+-- the same of a row's five words
+abbrev pub Shape : List ℕ → Node → Type 0
+Shape r node = View (getD r 0 0) (getD r 1 0) (getD r 2 0) (getD r 3 0) (getD r 4 0) node
+
+pub view-of : (r : List ℕ) → Shape r (nodeOf r)
 view-of r = view (getD r 0 0) (getD r 1 0) (getD r 2 0) (getD r 3 0) (getD r 4 0)
 
 -- what a node that some row has says of its tag

@@ -1,9 +1,8 @@
 -- Laws of rows: what a row that passes a test says. Assumes nothing.
 use Prim.Native.Nat.{ℕ, _<_}
 use mathlib.Core.Path.{_≡_, refl, _∙_}
-use mathlib.Core.Bool.{true, false}
+use mathlib.Core.Bool.{true}
 use mathlib.Core.List.{List}
-use native.Mathlib.Omega.{arith}
 use borrow.Author.Tests.{eqb-true, ltb-true}
 use lib.Dec.{eqb}
 use lib.ListN.{getD}
@@ -14,7 +13,7 @@ use Rattle.rows.specs.declared.Graph.the-variants.{Target}
 use Rattle.rows.specs.declared.Node.{Node}
 use Rattle.rows.specs.declared.Node.the-variants.{Var, Const, Un, Bin, Extract, Extend, Ite, Select, Call, Unknown}
 use Rattle.rows.specs.Row.{rowCount, rowAt}
-use Rattle.rows.specs.Tags.{tVar, tConst, tIte, tEq, tNot, tBoolAnd, tBoolOr, tSelect, tCall}
+use Rattle.rows.specs.Tags.{tVar, tIte, tEq, tNot, tBoolAnd, tBoolOr}
 use Rattle.rows.proofs.Tags.{un-tags, extend-tags}
 use Rattle.rows.proofs.View.{TagGood, node-two, two-node}
 use Rattle.rows.specs.Node.{nodeFrom, nodeOf, rowEq}

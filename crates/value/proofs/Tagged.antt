@@ -14,7 +14,7 @@ use Rattle.rows.specs.Row.{rowCount, rowAt}
 use Rattle.encoding.specs.Encoding.{rowGood, rowBad, badRow}
 use Rattle.rows.specs.Tags.{tVar}
 use Rattle.rows.specs.Node.{nodeOf}
-use Rattle.rows.proofs.View.{View, is-var, is-const, is-extract, is-extend, is-ite, is-un, is-select, is-call, is-bin, is-unknown, view-of, var-viewed}
+use Rattle.rows.proofs.View.{View, Shape, is-var, is-const, is-extract, is-extend, is-ite, is-un, is-select, is-call, is-bin, is-unknown, view-of, var-viewed}
 use Rattle.value.specs.Operate.{tagOf}
 
 viewed-core : (t a b c d : ℕ) (node : Node) → t < 37 → View t a b c d node → tagOf node < 37
@@ -41,4 +41,4 @@ core-rows g h r l =
 
 -- a variable's row has tag 0 and its width in the first field
 pub node-var : (r : List ℕ) (w : ℕ) → nodeOf r ≡ Var w → (getD r 0 0 ≡ tVar) × (getD r 1 0 ≡ w)
-node-var r w h = var-viewed _ _ _ _ _ w (subst (View (getD r 0 0) (getD r 1 0) (getD r 2 0) (getD r 3 0) (getD r 4 0)) h (view-of r))
+node-var r w h = var-viewed _ _ _ _ _ w (subst (Shape r) h (view-of r))

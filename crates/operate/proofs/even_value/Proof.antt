@@ -7,7 +7,7 @@ use Rattle.operate.proofs.even_value.Tie as tie
 sums-requires : tie.Need-sums-requires
 sums-requires c κs =
     let g = c .before .pre in
-    (past-const _ (g .0), c .if1 .taken, g .2)
+    (past-const _ (node-two _ (g .0)), c .if1 .taken, g .2)
 
 returns : tie.Need-returns
 returns c = c .sums .ensures
@@ -27,7 +27,7 @@ returns-3 c = c .shifts .ensures
 compares-requires : tie.Need-compares-requires
 compares-requires c κs =
     let g = c .before .before .before .before .pre in
-    (past-ite _ (g .0) (g .1) (c .before .if3 .left), c .if4 .taken)
+    (past-ite _ (node-two _ (g .0)) (g .1) (c .before .if3 .left), c .if4 .taken)
 
 returns-4 : tie.Need-returns-4
 returns-4 c = c .compares .ensures
@@ -41,7 +41,7 @@ returns-5 c = c .signed-compares .ensures
 bools-requires : tie.Need-bools-requires
 bools-requires c κs =
     let g = c .before .before .before .before .before .before .pre in
-    (past-not _ (g .0) (c .before .if5 .left), c .if6 .taken, g .2)
+    (past-not _ (node-two _ (g .0)) (c .before .if5 .left), c .if6 .taken, g .2)
 
 returns-6 : tie.Need-returns-6
 returns-6 c = c .bools .ensures
@@ -49,7 +49,7 @@ returns-6 c = c .bools .ensures
 others-requires : tie.Need-others-requires
 others-requires c κs =
     let g = c .before .before .before .before .before .before .pre in
-    (past-neg _ (g .0) (c .if6 .left), node-two _ (g .0) .core, g .2)
+    (past-neg _ (node-two _ (g .0)) (c .if6 .left), node-two _ (g .0) .core, g .2)
 
 returns-7 : tie.Need-returns-7
 returns-7 c = c .others .ensures
