@@ -14,7 +14,7 @@ use Rattle.rows.specs.declared.Node.{Node}
 use Rattle.rows.specs.declared.Node.the-variants.{Var, Const, Un, Bin, Extract, Extend, Ite, Select, Call, Unknown}
 use Rattle.rows.specs.Row.{rowCount, rowAt, ragged}
 use Rattle.rows.specs.Node.{nodeOf}
-use Rattle.rows.specs.Encoding.{badRow, badBit}
+use Rattle.encoding.specs.Encoding.{badRow, badBit}
 use Rattle.lowering.specs.Images.{MAX, mapAt, sameConst}
 use Rattle.lowering.specs.Tables.{readCount, callCount, badRead, badCall}
 use Rattle.lowering.specs.Roots.{Pair, badLead, badCong, readPairs, callPairs, readRoot, callRoot}

@@ -17,7 +17,6 @@ use Rattle.rows.specs.declared.Node.{Node}
 use Rattle.rows.specs.Row.{rowCount, rowAt}
 use Rattle.rows.specs.Tags.{tVar}
 use Rattle.rows.specs.Node.{nodeOf, operands}
-use Rattle.rows.proofs.Tags.{node-good}
 use Rattle.value.specs.Val.{Val, val, wid, nat, Fit}
 use Rattle.value.specs.Operate.{operate, tagOf, parameters}
 use Rattle.value.specs.Graph.{numbersTo, nodeValue, rowValue, valuesTo, value}
@@ -86,7 +85,7 @@ module _ (g bits given : List ℕ) where
           narrow = E .narrow;
           fits = λ a. number-fits a (decLt a i);
           clean = E .clean;
-          tag = node-good (rowAt Target g i);
+          decoded = (rowAt Target g i, refl);
           core = E .core i h;
           rows = rw (E .widths) h;
           numbers = numbers-length i;

@@ -7,7 +7,8 @@ use lib.ListN.{length, getD}
 use Rattle.rows.specs.declared.Graph.the-variants.{Target}
 use Rattle.rows.specs.declared.Node.{Node}
 use Rattle.rows.specs.Row.{rowCount, rowAt}
-use Rattle.rows.specs.Node.{nodeOf, TagGood}
+use Rattle.rows.specs.Node.{nodeOf}
+use Rattle.rows.specs.Decoded.{Decoded}
 use Rattle.value.specs.Val.{Val, val}
 use Rattle.value.specs.Operate.{tagOf}
 use Rattle.value.specs.Graph.{Assigns}
@@ -20,7 +21,7 @@ pub record Ready (bits ws vs : List ℕ) (i : ℕ) (node : Node) : Type 0 where
   pub narrow : (a : ℕ) → getD ws a 0 ≤ 64
   pub fits : (a : ℕ) → getD vs a 0 < 2 ^ getD ws a 0
   pub clean : (k : ℕ) → getD bits k 0 < 2
-  pub tag : TagGood node
+  pub decoded : Decoded node
   pub core : tagOf node < 37
   pub rows : i < length ws
   pub numbers : length vs ≡ i

@@ -10,7 +10,7 @@ use Rattle.answers.specs.declared.Answer.the-variants.{DeadEntry, RootMismatch,
 use Rattle.answers.specs.Answer.{isAccepted, lent}
 use Rattle.rows.specs.declared.Graph.the-variants.{Source, Target}
 use Rattle.rows.specs.Row.{rowCount, ragged}
-use Rattle.rows.specs.Encoding.{badRow, badBit}
+use Rattle.encoding.specs.Encoding.{badRow, badBit}
 use Rattle.wf.specs.Widths.{illRow, widths}
 use Rattle.lowering.specs.Lowering.{Lowering, sourceRows, targetRows, bindingOf}
 use Rattle.lowering.specs.Tables.{readCount, callCount, badRead, badCall, readClasses, callClasses, readOffsets, callOffsets}

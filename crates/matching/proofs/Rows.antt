@@ -1,21 +1,19 @@
 -- What a source row's tag word says of its answer and classes, and what its form promises. Assumes nothing.
 use Prim.Native.Nat.{ℕ, _+_, _<_, _≤_}
 use mathlib.Core.Path.{_≡_, refl}
-use mathlib.Core.Bool.{Bool, true, false, cond}
+use mathlib.Core.Bool.{Bool, true, false}
 use mathlib.Core.List.{List}
-use borrow.Author.Tests.{ne-eqb}
-use lib.Dec.{eqb, ltb}
 use lib.ListN.{getD, set}
 use Rattle.answers.specs.declared.Answer.{Answer}
 use Rattle.answers.specs.declared.Answer.the-variants.{VarClass, ConstMismatch, NodeMismatch, ChainMismatch, CallMismatch}
 use Rattle.answers.specs.Answer.{isAccepted}
-use Rattle.lists.proofs.Choice.{no-way}
 use Rattle.rows.specs.declared.Graph.the-variants.{Source, Target}
 use Rattle.rows.specs.declared.Node.{Node}
 use Rattle.rows.specs.declared.Node.the-variants.{Var, Const, Un, Bin, Extract, Extend, Ite, Select, Call, Unknown}
 use Rattle.rows.specs.Row.{rowAt}
-use Rattle.rows.specs.Tags.{tVar, tConst, tExtract, tIte, tSelect, tCall, isUn, isExtend}
-use Rattle.rows.specs.Node.{nodeFrom, nodeOf}
+use Rattle.rows.specs.Tags.{tVar, tConst, tSelect, tCall}
+use Rattle.rows.specs.Node.{nodeOf}
+use Rattle.rows.proofs.View.{View, is-var, is-const, is-extract, is-extend, is-ite, is-un, is-select, is-call, is-bin, is-unknown, view-of}
 use Rattle.wf.specs.Promise.{RowFormed, Follows, PairFormed, ArgFormed}
 use Rattle.lowering.specs.Lowering.{Binding}
 use Rattle.lowering.specs.Images.{sameConst}
@@ -35,27 +33,19 @@ Plain (Call f w s k) = ⊥
 Plain Unknown = ⊥
 
 -- where the tag is none of the four others and the row follows a rule
-plain-from : (nbits : ℕ) (side : List ℕ) (width : ℕ → ℕ) (i w t a b c d : ℕ) → (t ≡ tVar → ⊥) → (t ≡ tConst → ⊥) → (t ≡ tSelect → ⊥) → (t ≡ tCall → ⊥)
-    → Follows nbits side width i (nodeFrom t a b c d) w → Plain (nodeFrom t a b c d)
-plain-from nbits side width i w t a b c d n0 n1 n37 n38 =
-    go (eqb t tVar) (eqb t tConst) (eqb t tExtract) (isExtend t) (eqb t tIte) (isUn t) (eqb t tSelect) (eqb t tCall) (ltb t tSelect)
-    (ne-eqb t tVar n0) (ne-eqb t tConst n1) (ne-eqb t tSelect n37) (ne-eqb t tCall n38)
-  where
-    node : Bool → Bool → Bool → Bool → Bool → Bool → Bool → Bool → Bool → Node
-    node b0 b1 b2 b3 b4 b5 b6 b7 b8 = cond b0 (Var a) (cond b1 (Const a b) (cond b2 (Extract a b c) (cond b3 (Extend t a b) (cond b4 (Ite a b c) (cond b5 (Un t a) (cond b6 (Select a b c d) (cond b7 (Call a b c d) (cond b8 (Bin t a b) Unknown))))))))
-
-    go : (b0 b1 b2 b3 b4 b5 b6 b7 b8 : Bool) → b0 ≡ false → b1 ≡ false → b6 ≡ false → b7 ≡ false
-        → Follows nbits side width i (node b0 b1 b2 b3 b4 b5 b6 b7 b8) w → Plain (node b0 b1 b2 b3 b4 b5 b6 b7 b8)
-    go true b1 b2 b3 b4 b5 b6 b7 b8 e0 e1 e6 e7 f = no-way e0
-    go false true b2 b3 b4 b5 b6 b7 b8 e0 e1 e6 e7 f = no-way e1
-    go false false true b3 b4 b5 b6 b7 b8 e0 e1 e6 e7 f = tt
-    go false false false true b4 b5 b6 b7 b8 e0 e1 e6 e7 f = tt
-    go false false false false true b5 b6 b7 b8 e0 e1 e6 e7 f = tt
-    go false false false false false true b6 b7 b8 e0 e1 e6 e7 f = tt
-    go false false false false false false true b7 b8 e0 e1 e6 e7 f = no-way e6
-    go false false false false false false false true b8 e0 e1 e6 e7 f = no-way e7
-    go false false false false false false false false true e0 e1 e6 e7 f = tt
-    go false false false false false false false false false e0 e1 e6 e7 f = f
+viewed-plain : (nbits : ℕ) (side : List ℕ) (width : ℕ → ℕ) (i w t a b c d : ℕ) (node : Node)
+    → (t ≡ tVar → ⊥) → (t ≡ tConst → ⊥) → (t ≡ tSelect → ⊥) → (t ≡ tCall → ⊥)
+    → Follows nbits side width i node w → View t a b c d node → Plain node
+viewed-plain nbits side width i w t a b c d node n0 n1 n37 n38 f (is-var e) = n0 e
+viewed-plain nbits side width i w t a b c d node n0 n1 n37 n38 f (is-const e) = n1 e
+viewed-plain nbits side width i w t a b c d node n0 n1 n37 n38 f (is-extract e) = tt
+viewed-plain nbits side width i w t a b c d node n0 n1 n37 n38 f (is-extend e) = tt
+viewed-plain nbits side width i w t a b c d node n0 n1 n37 n38 f (is-ite e) = tt
+viewed-plain nbits side width i w t a b c d node n0 n1 n37 n38 f (is-un e) = tt
+viewed-plain nbits side width i w t a b c d node n0 n1 n37 n38 f (is-select e) = n37 e
+viewed-plain nbits side width i w t a b c d node n0 n1 n37 n38 f (is-call e) = n38 e
+viewed-plain nbits side width i w t a b c d node n0 n1 n37 n38 f (is-bin g) = tt
+viewed-plain nbits side width i w t a b c d node n0 n1 n37 n38 f (is-unknown l) = f
 
 -- the promise of a row, by its tag word
 module _ (nbits : ℕ) (side : List ℕ) (width : ℕ → ℕ) (i : ℕ) (e : List ℕ) (formed : RowFormed nbits side width i (nodeOf e)) where
@@ -72,8 +62,7 @@ module _ (nbits : ℕ) (side : List ℕ) (width : ℕ → ℕ) (i : ℕ) (e : Li
   call-args h = (rw h at (formed .follows)) .1
 
   pub plain : (getD e 0 0 ≡ tVar → ⊥) → (getD e 0 0 ≡ tConst → ⊥) → (getD e 0 0 ≡ tSelect → ⊥) → (getD e 0 0 ≡ tCall → ⊥) → Plain (nodeOf e)
-  plain n0 n1 n37 n38 =
-      plain-from nbits side width i (width i) (getD e 0 0) (getD e 1 0) (getD e 2 0) (getD e 3 0) (getD e 4 0) n0 n1 n37 n38 (formed .follows)
+  plain n0 n1 n37 n38 = viewed-plain nbits side width i (width i) _ _ _ _ _ (nodeOf e) n0 n1 n37 n38 (formed .follows) (view-of e)
 
 -- the answer and the classes of a row, by its tag word
 module _ (B : Binding) (ent cls : List ℕ) (i r : ℕ) (e : List ℕ) where

@@ -1,7 +1,7 @@
 -- In a well-formed source, under an interpretation of its kind, every row's value has the row's width and lies below 2 ^ width: core rows as in a
 -- target, a Select by its pairs' rows or the cell, a Call by its result. Assumes nothing.
 use Prim.Native.Nat.{ℕ, zero, suc, _+_, _*_, _<_, _≤_, _^_}
-use mathlib.Core.Path.{_≡_, refl, sym, ap, _∙_, subst}
+use mathlib.Core.Path.{_≡_, sym, ap, _∙_, subst}
 use mathlib.Core.Bool.{Bool, true, false, cond}
 use mathlib.Core.List.{List}
 use native.Mathlib.Decide.{decLt}
@@ -14,10 +14,11 @@ use Rattle.rows.specs.declared.Graph.the-variants.{Source}
 use Rattle.rows.specs.declared.Node.{Node}
 use Rattle.rows.specs.declared.Node.the-variants.{Var, Const, Un, Bin, Extract, Extend, Ite, Select, Call, Unknown}
 use Rattle.rows.specs.Row.{rowCount, rowAt}
-use Rattle.rows.specs.Encoding.{badBit}
-use Rattle.rows.specs.Node.{nodeOf, TagGood}
-use Rattle.rows.proofs.Tags.{un-tags, extend-tags, node-good}
-use Rattle.rows.proofs.Encoding.{clean}
+use Rattle.encoding.specs.Encoding.{badBit}
+use Rattle.rows.specs.Node.{nodeOf}
+use Rattle.rows.proofs.Tags.{un-tags, extend-tags}
+use Rattle.rows.proofs.View.{TagGood, node-good}
+use Rattle.encoding.proofs.Encoding.{clean}
 use Rattle.rules.specs.Rule.{cellWidth}
 use Rattle.wf.specs.Promise.{RowFormed, WellFormed}
 use Rattle.wf.specs.Widths.{illRow, widths}
@@ -28,20 +29,24 @@ use Rattle.value.specs.Graph.{nodeValue}
 use Rattle.value.proofs.Formed.{row-formed}
 use Rattle.meaning.specs.Meaning.{Interpretation, OfKind, stored, sourceNode, sourceRow, sourceValues, sourceValue}
 
+-- a choice of two numbers below a bound
+cond-below : (b : Bool) (u v m : ℕ) → u < m → v < m → cond b u v < m
+cond-below true u v m h l = h
+cond-below false u v m h l = l
+
 -- what is read through pairs is below a bound if the cell and every pair's value are
 stored-fits : (look : ℕ → Val) (side : List ℕ) (x cell m k s : ℕ) → cell < m → ((l : ℕ) → l < k → nat (look (getD side (s + 2 * l + 1) 0)) < m)
     → stored look side x cell k s < m
 unfolding stored
 stored-fits look side x cell m zero s c f = c
 stored-fits look side x cell m (suc k) s c f =
-    go (eqb (nat (look (getD side s 0))) x)
-    (let e : s + 2 * 0 + 1 ≡ s + 1 = omega arith in rw e at (f 0 (omega arith)))
-    (stored-fits look side x cell m k (s + 2) c (λ l h. let e : s + 2 * suc l + 1 ≡ s + 2 + 2 * l + 1 = omega arith in rw e at (f (suc l) (omega arith))))
+    cond-below (eqb (nat (look (getD side s 0))) x) _ _ m here (stored-fits look side x cell m k (s + 2) c rest)
   where
-    go : (b : Bool) → nat (look (getD side (s + 1) 0)) < m → stored look side x cell k (s + 2) < m
-        → cond b (nat (look (getD side (s + 1) 0))) (stored look side x cell k (s + 2)) < m
-    go true v r = v
-    go false v r = r
+    here : nat (look (getD side (s + 1) 0)) < m
+    here = let e : s + 2 * 0 + 1 ≡ s + 1 = omega arith in rw e at (f 0 (omega arith))
+
+    rest : (l : ℕ) → l < k → nat (look (getD side (s + 2 + 2 * l + 1) 0)) < m
+    rest l h = let e : s + 2 * suc l + 1 ≡ s + 2 + 2 * l + 1 = omega arith in rw e at (f (suc l) (omega arith))
 
 module _ (bits side : List ℕ) (width : ℕ → ℕ) (look : ℕ → Val) (i : ℕ) (agree : (a : ℕ) → a < i → wid (look a) ≡ width a)
     (fits : (a : ℕ) → Fit (look a)) (bit : (k : ℕ) → getD bits k 0 < 2) (I : Interpretation)

@@ -6,7 +6,7 @@ use borrow.Author.Tests.{eqb-true, eqb-false, ne-eqb}
 use native.Mathlib.Omega.{arith}
 use lib.Dec.{T}
 use Rattle.rows.specs.Tags.{isUn, isExtend, tConcat}
-use Rattle.rows.specs.Node.{BinTag}
+use Rattle.rows.proofs.View.{TwoOperands}
 use Rattle.operate.specs.Ready.{BinReady, Words}
 
 -- neither of two tests
@@ -34,25 +34,25 @@ not-un t e =
     (eqb-false t 29 (n .0), eqb-false t 32 (m .0), eqb-false t 33 (m .1))
 
 -- past the tags of other shapes: Var and Const; Extract to Ite, where it is not Concat; Not; BvNot and Neg
-pub past-const : (t : ℕ) → BinTag t → 1 < t
+pub past-const : (t : ℕ) → TwoOperands t → 1 < t
 past-const t g =
     let p = eqb-false t 0 (g .no-var) in
     let q = eqb-false t 1 (g .no-const) in
     omega arith
 
-pub past-ite : (t : ℕ) → BinTag t → (t ≡ tConcat → ⊥) → 13 < t → 18 < t
+pub past-ite : (t : ℕ) → TwoOperands t → (t ≡ tConcat → ⊥) → 13 < t → 18 < t
 past-ite t g n h =
     let p = eqb-false t 14 (g .no-extract) in
     let q = not-extend t (g .no-extend) in
     let r = eqb-false t 18 (g .no-ite) in
     omega arith
 
-pub past-not : (t : ℕ) → BinTag t → 28 < t → 29 < t
+pub past-not : (t : ℕ) → TwoOperands t → 28 < t → 29 < t
 past-not t g h =
     let n = not-un t (g .no-un) in
     omega arith
 
-pub past-neg : (t : ℕ) → BinTag t → 31 < t → 33 < t
+pub past-neg : (t : ℕ) → TwoOperands t → 31 < t → 33 < t
 past-neg t g h =
     let n = not-un t (g .no-un) in
     omega arith

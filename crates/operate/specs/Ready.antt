@@ -1,10 +1,10 @@
 -- What the operators of two operands ask for: a tag of that shape, numbers that fit their widths, and the rule on the widths.
--- Assumes nothing.
+-- Inner: contracts within the code cite it; no answer's definition does. Assumes nothing.
 use Prim.Native.Nat.{ℕ, _<_, _≤_, _+_, _^_}
 use mathlib.Core.Path.{_≡_}
 use mathlib.Core.List.{[], _∷_}
 use Rattle.rows.specs.Tags.{tConcat}
-use Rattle.rows.specs.Node.{BinTag}
+use Rattle.rows.specs.Decoded.{BinTag}
 use Rattle.value.specs.Val.{val}
 use Rattle.value.specs.Operate.{opNumber}
 

@@ -5,7 +5,7 @@ ghost use mathlib.Core.List.{[], _∷_};
 ghost use Prim.Native.Nat.{ℕ, _<_, _≤_, _+_, _^_};
 ghost use lib.ListN.{length, getD};
 ghost use Rattle.rows.specs.Tags.{isUn, isExtend, tConcat};
-ghost use Rattle.rows.specs.Node.{BinTag};
+ghost use Rattle.rows.specs.Decoded.{BinTag};
 ghost use Rattle.value.specs.Val.{val};
 ghost use Rattle.value.specs.Operate.{opNumber, constNumber};
 ghost use Rattle.operate.specs.Ready.{BinReady, Words, evenNumber};

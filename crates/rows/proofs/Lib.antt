@@ -1,2 +1,2 @@
 pub mod Tags
-pub mod Encoding
+pub mod View

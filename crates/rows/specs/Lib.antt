@@ -1,4 +1,4 @@
 pub mod Row
 pub mod Tags
 pub mod Node
-pub mod Encoding
+pub mod Decoded

@@ -1,7 +1,6 @@
 -- What a row's five words say, by shape; a shape of several tags keeps its tag (01, 'Rows'). Assumes nothing.
-use Prim.Native.Nat.{ℕ, _<_}
-use mathlib.Core.Path.{_≡_}
-use mathlib.Core.Bool.{Bool, true, false, cond}
+use Prim.Native.Nat.{ℕ}
+use mathlib.Core.Bool.{Bool, false, cond}
 use mathlib.Core.List.{List, [], _∷_}
 use lib.Dec.{eqb, ltb}
 use lib.ListN.{getD}
@@ -48,25 +47,3 @@ rowEq r s =
     false)
     false)
     false
-
--- a tag whose node has two operands, and the tags that a node may have
-pub record BinTag (t : ℕ) : Type 0 where
-  pub no-var : eqb t tVar ≡ false
-  pub no-const : eqb t tConst ≡ false
-  pub no-extract : eqb t tExtract ≡ false
-  pub no-extend : isExtend t ≡ false
-  pub no-ite : eqb t tIte ≡ false
-  pub no-un : isUn t ≡ false
-  pub core : t < tSelect
-
-abbrev pub TagGood : Node → Type 0
-TagGood (Var w) = Unit {0}
-TagGood (Const s w) = Unit {0}
-TagGood (Un t a) = isUn t ≡ true
-TagGood (Bin t a b) = BinTag t
-TagGood (Extract h l a) = Unit {0}
-TagGood (Extend t a n) = isExtend t ≡ true
-TagGood (Ite c t e) = Unit {0}
-TagGood (Select a j s k) = Unit {0}
-TagGood (Call f w s k) = Unit {0}
-TagGood Unknown = Unit {0}

@@ -2,7 +2,7 @@
 use mathlib.Core.List.{[]}
 use lib.ListN.{length}
 use Rattle.rows.specs.declared.Graph.the-variants.{Source, Target}
-use Rattle.rows.proofs.Encoding.{clean}
+use Rattle.encoding.proofs.Encoding.{clean}
 use Rattle.value.proofs.Tagged.{core-rows}
 use Rattle.wf.proofs.Promise.{well-formed}
 use Rattle.lowering.specs.Lowering.{Lowering}

@@ -15,8 +15,9 @@ use Rattle.rows.specs.declared.Node.{Node}
 use Rattle.rows.specs.declared.Node.the-variants.{Var, Const, Un, Bin, Extract, Extend, Ite, Select, Call, Unknown}
 use Rattle.rows.specs.Row.{rowAt}
 use Rattle.rows.specs.Tags.{tVar}
-use Rattle.rows.specs.Node.{operands, TagGood}
-use Rattle.rows.proofs.Tags.{un-tags, extend-tags, node-good}
+use Rattle.rows.specs.Node.{operands}
+use Rattle.rows.proofs.Tags.{un-tags, extend-tags}
+use Rattle.rows.proofs.View.{TagGood, node-good}
 use Rattle.value.specs.Operate.{tagOf, parameters}
 use Rattle.lowering.specs.declared.Walk.{Walk}
 use Rattle.lowering.specs.declared.Walk.the-variants.{RanOut, Met, Lost}

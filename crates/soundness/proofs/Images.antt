@@ -1,10 +1,9 @@
 -- Laws of rows: what a row that passes a test says. Assumes nothing.
 use Prim.Native.Nat.{ℕ, _<_}
 use mathlib.Core.Path.{_≡_, refl, _∙_}
-use mathlib.Core.Bool.{true, false}
+use mathlib.Core.Bool.{true}
 use mathlib.Core.List.{List}
-use native.Mathlib.Omega.{arith}
-use borrow.Author.Tests.{eqb-true, ltb-true, lt-ltb, ne-eqb}
+use borrow.Author.Tests.{eqb-true, ltb-true}
 use lib.Dec.{eqb}
 use lib.ListN.{getD}
 use Rattle.lists.proofs.Choice.{both}
@@ -14,9 +13,10 @@ use Rattle.rows.specs.declared.Graph.the-variants.{Target}
 use Rattle.rows.specs.declared.Node.{Node}
 use Rattle.rows.specs.declared.Node.the-variants.{Var, Const, Un, Bin, Extract, Extend, Ite, Select, Call, Unknown}
 use Rattle.rows.specs.Row.{rowCount, rowAt}
-use Rattle.rows.specs.Tags.{tVar, tConst, tIte, tEq, tNot, tBoolAnd, tBoolOr, tSelect, tCall}
+use Rattle.rows.specs.Tags.{tVar, tIte, tEq, tNot, tBoolAnd, tBoolOr}
 use Rattle.rows.proofs.Tags.{un-tags, extend-tags}
-use Rattle.rows.specs.Node.{nodeFrom, nodeOf, rowEq, TagGood, BinTag}
+use Rattle.rows.proofs.View.{TagGood, node-two, two-node}
+use Rattle.rows.specs.Node.{nodeFrom, nodeOf, rowEq}
 use Rattle.value.specs.Operate.{parameters, constNumber}
 use Rattle.lowering.specs.Images.{mapNode, rowOf, rowIs, tagAt, fieldAt, sameConst}
 use Rattle.lowering.specs.Matching.{isEq, isLevel}
@@ -27,18 +27,7 @@ of-words : (node : Node) → TagGood node → nodeOf (rowOf node) ≡ node
 of-words (Var w) g = refl
 of-words (Const s w) g = refl
 of-words (Un t a) g = un-tags (λ t. nodeFrom t a 0 0 0 ≡ Un t a) t refl refl refl g
-of-words (Bin t a b) g =
-    rw (
-      g .no-var,
-      g .no-const,
-      g .no-extract,
-      g .no-extend,
-      g .no-ite,
-      g .no-un,
-      ne-eqb t tSelect (λ z. omega (arith, g .core)),
-      ne-eqb t tCall (λ z. omega (arith, g .core)),
-      lt-ltb t tSelect (g .core),
-    )
+of-words (Bin t a b) g = two-node t g a b 0 0
 of-words (Extract h l a) g = refl
 of-words (Extend t a n) g = extend-tags (λ t. nodeFrom t a n 0 0 ≡ Extend t a n) t refl refl g
 of-words (Ite c t e) g = refl
@@ -100,10 +89,7 @@ module _ (target : List ℕ) where
   unfolding isEq
   eq-row a b r e =
       let (x, (y, _)) = all-true _ e in
-      (ltb-true _ _ x, row-is (rowAt Target target r) (Bin tEq a b) eq-tag y)
-    where
-      eq-tag : BinTag tEq
-      eq-tag = record { no-var = refl; no-const = refl; no-extract = refl; no-extend = refl; no-ite = refl; no-un = refl; core = omega arith }
+      (ltb-true _ _ x, row-is (rowAt Target target r) (Bin tEq a b) (node-two tEq (λ a b c d. refl)) y)
 
   -- one level of a walk: the rest is the row's third field
   pub ite-row : (a b v r : ℕ) → isLevel target a b v r ≡ true

@@ -6,7 +6,7 @@ use lib.ListN.{length, getD}
 use Rattle.answers.specs.Answer.{isAccepted}
 use Rattle.rows.specs.declared.Graph.the-variants.{Source, Target}
 use Rattle.rows.specs.Tags.{either}
-use Rattle.rows.specs.Encoding.{badRow, badBit}
+use Rattle.encoding.specs.Encoding.{badRow, badBit}
 use Rattle.lowering.specs.Tables.{readCount, callCount, readGood, callGood, readClasses, callClasses}
 use Rattle.lowering.specs.Roots.{pair, leads, rootAt, readRoot, callRoot}
 use Rattle.lowering.specs.Lowering.{Lowering, sourceRows, targetRows}

@@ -15,7 +15,7 @@ use Rattle.lists.proofs.First.{first-le, first-all}
 use Rattle.rows.specs.declared.Graph.{Graph}
 use Rattle.rows.specs.declared.Graph.the-variants.{Source, Target}
 use Rattle.rows.specs.Row.{rowCount}
-use Rattle.rows.specs.Encoding.{rowBad, badRow, badBit}
+use Rattle.encoding.specs.Encoding.{rowBad, badRow, badBit}
 use Rattle.wf.specs.Widths.{illRow, widthsTo, widths}
 use Rattle.wf.specs.Pass.{rowStops, stopRow}
 use Rattle.wf.proofs.Stop.{stop-none, stop-ill}

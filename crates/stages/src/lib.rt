@@ -7,7 +7,7 @@ ghost use lib.ListN.{length, drop, replicate};
 ghost use Rattle.answers.specs.Answer.{isAccepted};
 ghost use Rattle.rows.specs.declared.Graph.{Graph};
 ghost use Rattle.rows.specs.Row.{rowCount};
-ghost use Rattle.rows.specs.Encoding.{rowBad};
+ghost use Rattle.encoding.specs.Encoding.{rowBad};
 ghost use Rattle.wf.specs.Widths.{widths};
 ghost use Rattle.lowering.specs.Tables.{readCount, callCount, readClasses, callClasses, readOffsets, callOffsets};
 ghost use Rattle.lowering.specs.Check.{firstRefusal, countAnswers, graphAnswers, graphsAnswer, tableAnswers, rootAnswers};
@@ -66,19 +66,19 @@ fn graph_answer(
     ensures answer { λ r. ⌜ r ≡ firstRefusal (graphAnswers (now (source .entry)) (now (ebits .entry)) (now (target .entry))
         (now (tbits .entry)) stop0 stop1) ⌝ }
 {
-    let row0 = rows::bad_row(Graph::Source, source, stop0);
+    let row0 = encoding::bad_row(Graph::Source, source, stop0);
     if row0 < rows::row_count(Graph::Source, source) {
         return Answer::BadRow(row0 as u64, 1);
     }
-    let row1 = rows::bad_row(Graph::Target, target, stop1);
+    let row1 = encoding::bad_row(Graph::Target, target, stop1);
     if row1 < rows::row_count(Graph::Target, target) {
         return Answer::BadRow(row1 as u64, 2);
     }
-    let bit0 = rows::bad_bit(ebits);
+    let bit0 = encoding::bad_bit(ebits);
     if bit0 < ebits.len() {
         return Answer::BadBit(bit0 as u64, 1);
     }
-    let bit1 = rows::bad_bit(tbits);
+    let bit1 = encoding::bad_bit(tbits);
     if bit1 < tbits.len() {
         return Answer::BadBit(bit1 as u64, 2);
     }

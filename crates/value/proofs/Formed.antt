@@ -1,5 +1,5 @@
 -- In a well-formed target every row's value has the row's width and lies below 2 ^ width. Assumes nothing.
-use Prim.Native.Nat.{ℕ, _+_, _-_, _<_, _≤_, _^_}
+use Prim.Native.Nat.{ℕ, _+_, _<_, _≤_, _^_}
 use mathlib.Core.Path.{_≡_, refl, sym, ap, _∙_, subst}
 use mathlib.Core.Bool.{Bool, true, false, cond}
 use mathlib.Core.List.{List, [], _∷_, map}
@@ -17,8 +17,9 @@ use Rattle.rows.specs.declared.Node.{Node}
 use Rattle.rows.specs.declared.Node.the-variants.{Var, Const, Un, Bin, Extract, Extend, Ite, Select, Call, Unknown}
 use Rattle.rows.specs.Row.{rowCount, rowAt}
 use Rattle.rows.specs.Tags.{tVar, tConst, tExtract, tNot, isUn, isExtend}
-use Rattle.rows.specs.Node.{nodeOf, operands, TagGood}
-use Rattle.rows.proofs.Tags.{extend-tags, node-good}
+use Rattle.rows.specs.Node.{nodeOf, operands}
+use Rattle.rows.proofs.Tags.{extend-tags}
+use Rattle.rows.proofs.View.{TagGood, node-good}
 use Rattle.rules.specs.Rule.{same, unWidth}
 use Rattle.wf.specs.Promise.{RowFormed, WellFormed}
 use Rattle.value.specs.Val.{Val, val, wid, arg, Fit}

@@ -18,8 +18,8 @@ use Rattle.rows.specs.declared.Graph.the-variants.{Target}
 use Rattle.rows.specs.declared.Node.the-variants.{Var}
 use Rattle.rows.specs.Row.{rowCount, rowAt}
 use Rattle.rows.specs.Node.{nodeOf}
-use Rattle.rows.specs.Encoding.{badRow, badBit}
-use Rattle.rows.proofs.Encoding.{clean}
+use Rattle.encoding.specs.Encoding.{badRow, badBit}
+use Rattle.encoding.proofs.Encoding.{clean}
 use Rattle.value.proofs.Tagged.{core-rows, node-var}
 use Rattle.wf.specs.Widths.{illRow, widths, rowWidth}
 use Rattle.wf.proofs.Promise.{well-formed}

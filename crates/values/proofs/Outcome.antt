@@ -15,7 +15,7 @@ use Rattle.lists.proofs.Choice.{no-way}
 use Rattle.lists.proofs.Build.{build-length}
 use Rattle.rows.specs.declared.Graph.the-variants.{Target}
 use Rattle.rows.specs.Row.{rowCount, ragged}
-use Rattle.rows.specs.Encoding.{badRow, badBit}
+use Rattle.encoding.specs.Encoding.{badRow, badBit}
 use Rattle.wf.specs.Widths.{illRow, widths, rowWidth}
 use Rattle.widths.specs.Widths.{rowsAnswer}
 use Rattle.values.proofs.Given.{given-tests}

@@ -14,7 +14,7 @@ use Rattle.evaluate.proofs.Rows.{numbers-front}
 use Rattle.lists.proofs.Build.{build-length, build-front}
 use Rattle.rows.specs.declared.Graph.the-variants.{Target}
 use Rattle.rows.specs.Row.{rowCount, ragged}
-use Rattle.rows.specs.Encoding.{badRow, badBit}
+use Rattle.encoding.specs.Encoding.{badRow, badBit}
 use Rattle.wf.specs.Widths.{illRow, widths, rowWidth}
 use Rattle.widths.specs.Widths.{Out, out, rowsAnswer, targetWidths}
 use Rattle.values.proofs.Given.{rows-tests}

@@ -9,7 +9,7 @@ use lib.Dec.{eqb}
 use Rattle.lists.proofs.First.{first-at, first-none, first-before, first-hit}
 use Rattle.rows.specs.declared.Graph.{Graph}
 use Rattle.rows.specs.Row.{rowCount, rowAt}
-use Rattle.rows.specs.Encoding.{rowGood, rowBad, badRow}
+use Rattle.encoding.specs.Encoding.{rowGood, rowBad, badRow}
 use Rattle.wf.specs.Widths.{rowWidth, widthsTo, rowIll, illRow}
 use Rattle.wf.specs.Pass.{goodWidth, rowStops, stopRow}
 

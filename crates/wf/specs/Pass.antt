@@ -7,7 +7,7 @@ use lib.Dec.{eqb}
 use Rattle.lists.specs.First.{first}
 use Rattle.rows.specs.declared.Graph.{Graph}
 use Rattle.rows.specs.Row.{rowCount, rowAt}
-use Rattle.rows.specs.Encoding.{rowGood}
+use Rattle.encoding.specs.Encoding.{rowGood}
 use Rattle.wf.specs.Widths.{rowWidth, widthsTo}
 
 -- one pass looks for badly encoded and ill-formed rows together: a row's width, 0 where it is either

@@ -1,10 +1,9 @@
 // Well-formedness of a graph: each row against the widths of the rows before it.
 ghost use mathlib.Core.Path.{_≡_};
-ghost use mathlib.Core.List.{[], _++_};
+ghost use mathlib.Core.List.{_++_};
 ghost use Prim.Native.Nat.{_<_, _≤_};
 ghost use lib.ListN.{length, drop};
 ghost use Rattle.rows.specs.Row.{rowCount};
-ghost use Rattle.rows.specs.declared.Node.{Node};
 ghost use Rattle.rules.specs.Rule.{nodeWidth};
 ghost use Rattle.wf.specs.Widths.{widthsTo, badRoot};
 ghost use Rattle.wf.specs.Pass.{goodWidth, stopRow};
@@ -18,11 +17,11 @@ fn node_width(ws: &[u64], nbits: u64, side: &[u64], node: Node) -> u64
     match node {
         Node::Var(w) => rules::var_row(w),
         Node::Const(s, w) => rules::const_row(nbits, s, w),
-        Node::Un(t, a) => rules::un_row(ws, t, a),
-        Node::Bin(t, a, b) => rules::bin_row(ws, t, a, b),
-        Node::Extract(high, low, a) => rules::extract_row(ws, high, low, a),
-        Node::Extend(t, a, by) => rules::extend_row(ws, t, a, by),
-        Node::Ite(c, t, e) => rules::ite_row(ws, c, t, e),
+        Node::Un(t, a) => shapes::un_row(ws, t, a),
+        Node::Bin(t, a, b) => shapes::bin_row(ws, t, a, b),
+        Node::Extract(high, low, a) => shapes::extract_row(ws, high, low, a),
+        Node::Extend(t, a, by) => shapes::extend_row(ws, t, a, by),
+        Node::Ite(c, t, e) => shapes::ite_row(ws, c, t, e),
         Node::Select(array, j, s, k) => sides::select_row(ws, side, array, j, s, k),
         Node::Call(f, w, s, k) => sides::call_row(ws, side, f, w, s, k),
         Node::Unknown => 0,
@@ -35,7 +34,7 @@ fn row_width(graph: Graph, g: &[u64], i: usize, nbits: u64, side: &[u64], ws: &[
     ensures width { λ r. ⌜ r ≡ goodWidth graph nbits (now (side .entry)) (now (g .entry)) i (now (ws .entry)) ⌝ }
 {
     let r = rows::row(graph, g, i);
-    if !rows::row_good(graph, r) {
+    if !encoding::row_good(graph, r) {
         return 0;
     }
     let node = rows::decode(r);

@@ -14,7 +14,7 @@ use Rattle.lists.proofs.Build.{build-length, build-front}
 use Rattle.rows.specs.declared.Graph.{Graph}
 use Rattle.rows.specs.declared.Graph.the-variants.{Source, Target}
 use Rattle.rows.specs.Row.{graphNumber, rowCount, ragged}
-use Rattle.rows.specs.Encoding.{badRow, badBit}
+use Rattle.encoding.specs.Encoding.{badRow, badBit}
 use Rattle.wf.specs.Widths.{illRow, widths, widthsTo, rowWidth}
 use Rattle.wf.specs.Pass.{stopRow}
 use Rattle.wf.proofs.Stop.{stop-none, stop-ill}

@@ -10,7 +10,7 @@ use Rattle.answers.specs.Answer.{lent}
 use Rattle.rows.specs.declared.Graph.{Graph}
 use Rattle.rows.specs.declared.Graph.the-variants.{Source, Target}
 use Rattle.rows.specs.Row.{graphNumber, rowCount, ragged}
-use Rattle.rows.specs.Encoding.{badRow, badBit}
+use Rattle.encoding.specs.Encoding.{badRow, badBit}
 use Rattle.wf.specs.Widths.{illRow, widths, badRoot}
 
 -- an answer and what stands in the lent list afterwards

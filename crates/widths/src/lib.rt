@@ -3,7 +3,7 @@ ghost use mathlib.Core.Path.{_≡_};
 ghost use mathlib.Core.Bool.{false};
 ghost use Prim.Native.Nat.{ℕ, _<_};
 ghost use Rattle.rows.specs.Row.{rowCount};
-ghost use Rattle.rows.specs.Encoding.{rowBad};
+ghost use Rattle.encoding.specs.Encoding.{rowBad};
 ghost use Rattle.widths.specs.Widths.{out, illFormed, rowsAnswer, graphWidths, sourceWidths, targetWidths, rootsAnswer};
 use answers::Answer;
 use rows::Graph;
@@ -24,11 +24,11 @@ fn refusal(graph: Graph, g: &[u64], bits: &[u8], stop: usize) -> Answer
     ensures answer { λ r. ⌜ r ≡ rowsAnswer graph (now (g .entry)) (now (bits .entry)) stop ⌝ }
 {
     let number = rows::graph_number(graph);
-    let row = rows::bad_row(graph, g, stop);
+    let row = encoding::bad_row(graph, g, stop);
     if row < rows::row_count(graph, g) {
         return Answer::BadRow(row as u64, number);
     }
-    let bit = rows::bad_bit(bits);
+    let bit = encoding::bad_bit(bits);
     if bit < bits.len() {
         return Answer::BadBit(bit as u64, number);
     }
@@ -51,7 +51,7 @@ fn graph_widths(graph: Graph, g: &[u64], bits: &[u8], side: &[u64], ws: &mut [u6
         lists::clear(ws);
         return refusal(graph, g, bits, stop);
     }
-    let bit = rows::bad_bit(bits);
+    let bit = encoding::bad_bit(bits);
     if bit < bits.len() {
         lists::clear(ws);
         return Answer::BadBit(bit as u64, rows::graph_number(graph));

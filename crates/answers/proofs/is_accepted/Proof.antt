@@ -1,4 +1,4 @@
--- `answers::is_accepted` meets its contract. Assumes nothing.
+-- Accepted is the number 0 of the answer's words. Assumes nothing.
 use borrow.Author.Needs.{needs}
 use Rattle.answers.proofs.is_accepted.Statement.{statement}
 use Rattle.answers.proofs.is_accepted.Tie as tie

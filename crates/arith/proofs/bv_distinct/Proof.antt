@@ -2,14 +2,10 @@
 use borrow.Author.Tests.{eq-eqb, ne-eqb}
 use Rattle.arith.proofs.bv_distinct.Statement.{statement}
 use Rattle.arith.proofs.bv_distinct.Tie as tie
-use Rattle.arith.proofs.bv_distinct.Reads as reads
-use Rattle.arith.proofs.bv_distinct.Lts as lts
 
--- src/lib.rt:44:1
 returns : tie.Need-returns
 returns c = rw (eq-eqb _ _ (c .if1 .taken))
 
--- src/lib.rt:44:1
 returns-2 : tie.Need-returns-2
 returns-2 c = rw (ne-eqb _ _ (c .if1 .left))
 

@@ -2,14 +2,10 @@
 use borrow.Author.Tests.{eq-eqb, ne-eqb}
 use Rattle.arith.proofs.bv_ite.Statement.{statement}
 use Rattle.arith.proofs.bv_ite.Tie as tie
-use Rattle.arith.proofs.bv_ite.Reads as reads
-use Rattle.arith.proofs.bv_ite.Lts as lts
 
--- src/lib.rt:117:1
 returns : tie.Need-returns
 returns c = rw (eq-eqb _ _ (c .if1 .taken))
 
--- src/lib.rt:117:1
 returns-2 : tie.Need-returns-2
 returns-2 c = rw (ne-eqb _ _ (c .if1 .left))
 

@@ -4,20 +4,13 @@ use Rattle.arith.proofs.Sums.{neg-law}
 use borrow.Author.Needs.{needs}
 use Rattle.arith.proofs.bv_neg.Statement.{statement}
 use Rattle.arith.proofs.bv_neg.Tie as tie
-use Rattle.arith.proofs.bv_neg.Reads as reads
-use Rattle.arith.proofs.bv_neg.Lts as lts
-use Rattle.bv.proofs.low.Reads as low-reads
-use Rattle.std.proofs.num.wrapping_sub_u64.Reads as wrapping-sub-u64-reads
 
--- src/lib.rt:28:16
 wrapping-sub-u64-requires : tie.Need-wrapping-sub-u64-requires
 wrapping-sub-u64-requires c κs = search needs
 
--- src/lib.rt:28:5
 low-requires : tie.Need-low-requires
 low-requires c κs = search needs
 
--- src/lib.rt:24:1
 returns : tie.Need-returns
 returns c = c .low .ensures ∙ neg-law _ _ _ (c .before .before .pre .0) (c .before .before .pre .1) (c .before .wrapping-sub-u64 .ensures)
 

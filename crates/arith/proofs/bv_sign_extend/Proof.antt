@@ -4,43 +4,31 @@ use Rattle.arith.proofs.Parts.{ones-grow, sign-ones, sign-zeros}
 use borrow.Author.Needs.{needs}
 use Rattle.arith.proofs.bv_sign_extend.Statement.{statement}
 use Rattle.arith.proofs.bv_sign_extend.Tie as tie
-use Rattle.arith.proofs.bv_sign_extend.Reads as reads
-use Rattle.arith.proofs.bv_sign_extend.Lts as lts
-use Rattle.bv.proofs.is_negative.Reads as is-negative-reads
-use Rattle.bv.proofs.ones.Reads as ones-reads
 
--- src/lib.rt:158:8
 is-negative-requires : tie.Need-is-negative-requires
 is-negative-requires c κs = search needs
 
--- src/lib.rt:159:25
 add-ones : tie.Need-add-ones
 add-ones c = search needs
 
--- src/lib.rt:159:16
 ones-requires : tie.Need-ones-requires
 ones-requires c κs = search needs
 
--- src/lib.rt:159:34
 ones-requires-2 : tie.Need-ones-requires-2
 ones-requires-2 c κs = search needs
 
--- src/lib.rt:159:16
 sub-result : tie.Need-sub-result
 sub-result c = rw (c .ones2 .ensures, c .before .ones .ensures) (ones-grow _ _)
 
--- src/lib.rt:159:16
 add-result : tie.Need-add-result
 add-result c = search needs
 
--- src/lib.rt:159:9
 returns : tie.Need-returns
 returns c =
     let k = c .before .before .before in
     rw (c .ones2 .ensures, c .before .ones .ensures)
     (sign-ones (k .before .args .w) (k .before .args .n) (k .before .args .a) (sym (k .is-negative .ensures) ∙ c .before .before .if1 .taken))
 
--- src/lib.rt:154:1
 returns-2 : tie.Need-returns-2
 returns-2 c =
     let k = c .before .before .args in

@@ -4,20 +4,13 @@ use Rattle.arith.proofs.Sums.{sub-law}
 use borrow.Author.Needs.{needs}
 use Rattle.arith.proofs.bv_sub.Statement.{statement}
 use Rattle.arith.proofs.bv_sub.Tie as tie
-use Rattle.arith.proofs.bv_sub.Reads as reads
-use Rattle.arith.proofs.bv_sub.Lts as lts
-use Rattle.bv.proofs.low.Reads as low-reads
-use Rattle.std.proofs.num.wrapping_sub_u64.Reads as wrapping-sub-u64-reads
 
--- src/lib.rt:21:16
 wrapping-sub-u64-requires : tie.Need-wrapping-sub-u64-requires
 wrapping-sub-u64-requires c κs = search needs
 
--- src/lib.rt:21:5
 low-requires : tie.Need-low-requires
 low-requires c κs = search needs
 
--- src/lib.rt:17:1
 returns : tie.Need-returns
 returns c = c .low .ensures ∙ sub-law _ _ _ _ (c .before .before .pre .0) (c .before .before .pre .1) (c .before .wrapping-sub-u64 .ensures)
 

@@ -5,35 +5,25 @@ use Rattle.arith.proofs.Halves.{halves-fit, product-low}
 use borrow.Author.Needs.{needs}
 use Rattle.arith.proofs.product.Statement.{statement}
 use Rattle.arith.proofs.product.Tie as tie
-use Rattle.arith.proofs.product.Reads as reads
-use Rattle.arith.proofs.product.Lts as lts
-use Rattle.std.proofs.num.wrapping_add_u64.Reads as wrapping-add-u64-reads
 
--- src/lib.rt:173:15
 mul-m1 : tie.Need-mul-m1
 mul-m1 c = record { fits = halves-fit _ _ (omega arith) (omega arith) }
 
--- src/lib.rt:174:15
 mul-m2 : tie.Need-mul-m2
 mul-m2 c = record { fits = halves-fit _ _ (omega arith) (omega arith) }
 
--- src/lib.rt:175:16
 add-mid : tie.Need-add-mid
 add-mid c = search needs
 
--- src/lib.rt:176:32
 mul-wrapping-add-u64 : tie.Need-mul-wrapping-add-u64
 mul-wrapping-add-u64 c = record { fits = halves-fit _ _ (omega arith) (omega arith) }
 
--- src/lib.rt:176:41
 mul-wrapping-add-u64-2 : tie.Need-mul-wrapping-add-u64-2
 mul-wrapping-add-u64-2 c = search needs
 
--- src/lib.rt:176:5
 wrapping-add-u64-requires : tie.Need-wrapping-add-u64-requires
 wrapping-add-u64-requires c κs = search needs
 
--- src/lib.rt:166:1
 returns : tie.Need-returns
 returns c = c .wrapping-add-u64 .ensures ∙ sym (product-low _ _)
 

@@ -1,4 +1,4 @@
--- `bv_and` meets its contract, by `and-law`. Assumes nothing.
+-- The word's `&` has the bits that `and-law` asks for. Assumes nothing.
 use mathlib.Core.Path.{sym}
 use Rattle.bitwise.proofs.Logic.{and-law}
 use Rattle.bitwise.proofs.bv_and.Statement.{statement}

@@ -1,4 +1,4 @@
--- `bv_ashr` meets its contract, by `ashr-negative` and `ashr-positive`. Assumes nothing.
+-- A negative number by its complement (`ashr-negative`), another as it is (`ashr-positive`). Assumes nothing.
 use mathlib.Core.Path.{sym, _∙_}
 use borrow.Author.Needs.{needs}
 use Rattle.bitwise.proofs.Shift.{ashr-negative, ashr-positive}

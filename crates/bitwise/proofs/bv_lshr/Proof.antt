@@ -1,4 +1,4 @@
--- `bv_lshr` meets its contract, by `lshr-law`. Assumes nothing.
+-- A shift below the width divides (`lshr-law`), another leaves 0. Assumes nothing.
 use mathlib.Core.Path.{sym}
 use borrow.Author.Needs.{needs}
 use borrow.Author.Tests.{le-ltb}

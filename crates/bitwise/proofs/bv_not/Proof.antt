@@ -1,4 +1,4 @@
--- `bv_not` meets its contract, by `not-law`. Assumes nothing.
+-- The complement is the difference from all ones (`not-law`). Assumes nothing.
 use native.Mathlib.Omega.{arith}
 use borrow.Author.Needs.{needs}
 use Rattle.bitwise.proofs.Logic.{not-law}

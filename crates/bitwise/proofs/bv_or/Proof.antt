@@ -1,4 +1,4 @@
--- `bv_or` meets its contract, by `or-law`. Assumes nothing.
+-- The word's `|` has the bits that `or-law` asks for. Assumes nothing.
 use mathlib.Core.Path.{sym}
 use Rattle.bitwise.proofs.Logic.{or-law}
 use Rattle.bitwise.proofs.bv_or.Statement.{statement}

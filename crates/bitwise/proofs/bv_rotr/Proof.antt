@@ -1,4 +1,4 @@
--- `bv_rotr` meets its contract, by `rotr-word`; no shift is by 64. Assumes nothing.
+-- The two parts change places (`rotr-word`); an amount of 0 is apart, so no shift is by 64. Assumes nothing.
 use Prim.Native.Nat.{_≤_, _%_}
 use native.Mathlib.Nat.{mod-lt}
 use native.Mathlib.Omega.{arith}

@@ -1,4 +1,4 @@
--- `bv_shl` meets its contract, by `shl-law`: the shift in a word keeps the low w bits. Assumes nothing.
+-- The shift in a word keeps the low w bits (`shl-law`). Assumes nothing.
 use mathlib.Core.Path.{_∙_, sym}
 use borrow.Author.Needs.{needs}
 use borrow.Author.Tests.{le-ltb}

@@ -1,4 +1,4 @@
--- `bv_xor` meets its contract, by `xor-law`. Assumes nothing.
+-- The word's `^` has the bits that `xor-law` asks for. Assumes nothing.
 use mathlib.Core.Path.{sym}
 use Rattle.bitwise.proofs.Logic.{xor-law}
 use Rattle.bitwise.proofs.bv_xor.Statement.{statement}

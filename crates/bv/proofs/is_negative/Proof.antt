@@ -1,3 +1,4 @@
+-- The top bit of a word of width w is its sign (`top-test`). Assumes nothing.
 use Rattle.bv.proofs.Word.{top-test}
 use borrow.Author.Needs.{needs}
 use Rattle.bv.proofs.is_negative.Statement.{statement}

@@ -1,3 +1,4 @@
+-- Below 64 the remainder by 2 ^ w; at 64 the word itself. Assumes nothing.
 use mathlib.Core.Path.{_≡_, sym}
 use native.Mathlib.Nat.{mod-eq-of-lt}
 use native.Mathlib.Omega.{arith}

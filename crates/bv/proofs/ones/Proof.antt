@@ -1,3 +1,4 @@
+-- Below 64 the power less one; at 64 the constant. Assumes nothing.
 use mathlib.Core.Path.{_≡_}
 use native.Mathlib.Omega.{arith}
 use lib.Pow.{pow-pos}

@@ -1,4 +1,4 @@
--- `divide::back` meets its contract: a negative number is put back through -1 - z. Assumes nothing.
+-- A negative number is put back through -1 - z, which i64 holds. Assumes nothing.
 use mathlib.Core.Path.{sym, ap, _∙_}
 use mathlib.Core.Bool.{true, false}
 use native.Mathlib.Omega.{arith}

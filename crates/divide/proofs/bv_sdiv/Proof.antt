@@ -1,4 +1,4 @@
--- `divide::bv_sdiv` meets its contract, by `sdiv-law` and what i64 gives. Assumes nothing.
+-- By 0 and the least by -1 apart; any other quotient is an i64 (`sdiv-law`). Assumes nothing.
 use mathlib.Core.Path.{sym, _∙_}
 use Rattle.divide.proofs.Laws.{sdiv-law, sdiv-zero, sdiv-overflow}
 use Rattle.divide.proofs.Machine.{Divides, can-divide, quot-code}

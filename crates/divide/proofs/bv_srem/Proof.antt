@@ -1,4 +1,4 @@
--- `divide::bv_srem` meets its contract, by `srem-law` and what i64 gives. Assumes nothing.
+-- By 0 and the least by -1 apart; any other remainder is an i64 (`srem-law`). Assumes nothing.
 use mathlib.Core.Path.{sym, _∙_}
 use Rattle.divide.proofs.Laws.{srem-law, srem-zero, srem-overflow}
 use Rattle.divide.proofs.Machine.{Divides, can-divide, rem-code}

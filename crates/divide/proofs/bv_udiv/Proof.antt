@@ -1,4 +1,4 @@
--- `divide::bv_udiv` meets its contract. Assumes nothing.
+-- By 0 apart, else the word's quotient. Assumes nothing.
 use mathlib.Core.Path.{_∙_, sym}
 use borrow.Author.Tests.{eq-eqb, ne-eqb}
 use borrow.Author.Needs.{needs}

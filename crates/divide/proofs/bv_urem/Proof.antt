@@ -1,4 +1,4 @@
--- `divide::bv_urem` meets its contract. Assumes nothing.
+-- By 0 apart, else the word's remainder. Assumes nothing.
 use borrow.Author.Tests.{eq-eqb, ne-eqb}
 use borrow.Author.Needs.{needs}
 use Rattle.divide.proofs.bv_urem.Statement.{statement}

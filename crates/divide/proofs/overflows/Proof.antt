@@ -1,4 +1,4 @@
--- `divide::overflows` meets its contract. Assumes nothing.
+-- The three tests in the definition's order. Assumes nothing.
 use borrow.Author.Tests.{eq-eqb, ne-eqb}
 use Rattle.divide.proofs.overflows.Statement.{statement}
 use Rattle.divide.proofs.overflows.Tie as tie

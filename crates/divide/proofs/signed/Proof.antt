@@ -1,4 +1,4 @@
--- `divide::signed` meets its contract: a word with the top bit is read as -1 - (ones - a). Assumes nothing.
+-- A word with the top bit is read as -1 - (ones - a), which i64 holds. Assumes nothing.
 use mathlib.Core.Path.{sym, _∙_}
 use mir.Syntax.{w64}
 use mir.ValLaws.{toZ-ofZ}

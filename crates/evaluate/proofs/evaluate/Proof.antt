@@ -1,4 +1,4 @@
--- `evaluate::evaluate` meets its contract: the list is the numbers so far and the rest as it was; each row is ready. Assumes nothing.
+-- Invariant: the list is the numbers so far and the rest as it was; each row is ready when its turn comes. Assumes nothing.
 use Prim.Native.Nat.{_≤_, _-_}
 use mathlib.Core.Path.{_≡_, refl, sym, ap, _∙_}
 use mathlib.Core.List.{_++_}

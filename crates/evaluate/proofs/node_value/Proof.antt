@@ -1,4 +1,4 @@
--- `evaluate::node_value` meets its contract. Assumes nothing.
+-- Each arm: what a ready row gives its operator, then the operator's number; Select, Call and Unknown are no core nodes. Assumes nothing.
 use Prim.Native.Nat.{_<_}
 use mathlib.Core.Path.{_∙_, sym}
 use native.Mathlib.Omega.{arith}
@@ -72,13 +72,13 @@ returns-3 : tie.Need-returns-3
 returns-3 c =
     let s = c .before .before .before .before .before .before .before .args in
     let r = rw (c .before .before .node2 .given .1) at (c .before .before .before .before .before .before .before .pre) in
-    c .un-at .ensures ∙ sym (rw (c .before .before .node2 .given .1) (un-value (s .bits .now) (s .ws .now) (s .vs .now) (s .x) (c .before .before .node2 .given .0 .0) (c .before .before .node2 .given .0 .1 .0) (r .tag)))
+    c .un-at .ensures ∙ sym (rw (c .before .before .node2 .given .1) (un-value (s .bits .now) (s .ws .now) (s .vs .now) (s .x) (c .before .before .node2 .given .0 .0) (c .before .before .node2 .given .0 .1 .0) (r .decoded)))
 
 returns-4 : tie.Need-returns-4
 returns-4 c =
     let s = c .before .before .before .before .before .before .before .args in
     let r = rw (c .before .before .node3 .given .1) at (c .before .before .before .before .before .before .before .pre) in
-    c .bin-at .ensures ∙ sym (rw (c .before .before .node3 .given .1) (bin-value (s .bits .now) (s .ws .now) (s .vs .now) (s .x) (c .before .before .node3 .given .0 .0) (c .before .before .node3 .given .0 .1 .0) (c .before .before .node3 .given .0 .1 .1 .0) (r .tag .no-var)))
+    c .bin-at .ensures ∙ sym (rw (c .before .before .node3 .given .1) (bin-value (s .bits .now) (s .ws .now) (s .vs .now) (s .x) (c .before .before .node3 .given .0 .0) (c .before .before .node3 .given .0 .1 .0) (c .before .before .node3 .given .0 .1 .1 .0) (r .decoded)))
 
 returns-5 : tie.Need-returns-5
 unfolding operate
@@ -88,7 +88,7 @@ returns-6 : tie.Need-returns-6
 returns-6 c =
     let s = c .before .before .before .before .before .before .before .args in
     let r = rw (c .before .before .node5 .given .1) at (c .before .before .before .before .before .before .before .pre) in
-    c .extend-at .ensures ∙ sym (rw (c .before .before .node5 .given .1) (extend-value (s .bits .now) (s .ws .now) (s .vs .now) (s .x) (c .before .before .node5 .given .0 .0) (c .before .before .node5 .given .0 .1 .0) (c .before .before .node5 .given .0 .1 .1 .0) (r .tag)))
+    c .extend-at .ensures ∙ sym (rw (c .before .before .node5 .given .1) (extend-value (s .bits .now) (s .ws .now) (s .vs .now) (s .x) (c .before .before .node5 .given .0 .0) (c .before .before .node5 .given .0 .1 .0) (c .before .before .node5 .given .0 .1 .1 .0) (r .decoded)))
 
 returns-7 : tie.Need-returns-7
 unfolding operate

@@ -1,4 +1,4 @@
--- `evaluate::row_value` meets its contract. Assumes nothing.
+-- The row is decoded, and ready as its node is. Assumes nothing.
 use mathlib.Core.Path.{_∙_}
 use borrow.Author.Needs.{needs}
 use Rattle.evaluate.proofs.row_value.Statement.{statement}

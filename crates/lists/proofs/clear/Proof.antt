@@ -1,4 +1,4 @@
--- `lists::clear` meets its contract: after i turns the list is i zeros and the rest as it was. Assumes nothing.
+-- Invariant: after i turns the list is i zeros and the rest as it was. Assumes nothing.
 use Prim.Native.Nat.{_≤_, _<_, _-_}
 use mathlib.Core.Path.{_≡_, _∙_}
 use mathlib.Core.List.{_++_, append-nil}

@@ -1,4 +1,4 @@
--- `lists::clear_from` meets its contract: the part from `from` on is zeroed, and put back. Assumes nothing.
+-- The part from `from` on is zeroed and put back. Assumes nothing.
 use Rattle.lists.proofs.Fill.{fill-end}
 use borrow.Author.Needs.{needs}
 use Rattle.lists.proofs.clear_from.Statement.{statement}

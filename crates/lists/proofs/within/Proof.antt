@@ -1,4 +1,4 @@
--- `lists::within` meets its contract. Assumes nothing.
+-- More words than the list has, or a start within the room that is left. Assumes nothing.
 use mathlib.Core.Path.{sym}
 use Rattle.lists.proofs.Tests.{within-short, within-rest}
 use Rattle.lists.proofs.within.Statement.{statement}

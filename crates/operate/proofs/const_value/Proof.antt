@@ -1,4 +1,4 @@
--- A constant's bits, read from the highest down. Assumes nothing.
+-- Invariant: v is the number of the bits from k up to w; one more bit below doubles it. Assumes nothing.
 use mathlib.Core.Path.{_≡_, sym, _∙_}
 use Prim.Native.Nat.{_≤_, _-_, _+_}
 use native.Mathlib.Omega.{arith}

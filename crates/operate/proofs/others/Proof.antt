@@ -1,18 +1,17 @@
 -- Rotl, Sdiv and Srem, by tag. Assumes nothing.
 use mathlib.Core.Path.{_≡_}
 use native.Mathlib.Omega.{arith}
-use borrow.Author.Needs.{needs}
 use Rattle.operate.proofs.others.Statement.{statement}
 use Rattle.operate.proofs.others.Tie as tie
 
 bv-rotl-requires : tie.Need-bv-rotl-requires
-bv-rotl-requires c κs = search needs
+bv-rotl-requires c κs = c .before .pre .2
 
 bv-sdiv-requires : tie.Need-bv-sdiv-requires
-bv-sdiv-requires c κs = search needs
+bv-sdiv-requires c κs = c .before .pre .2
 
 bv-srem-requires : tie.Need-bv-srem-requires
-bv-srem-requires c κs = search needs
+bv-srem-requires c κs = c .before .pre .2
 
 returns : tie.Need-returns
 returns c = rw (c .before .match .keys1) (c .bv-rotl .ensures)

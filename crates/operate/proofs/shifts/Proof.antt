@@ -1,21 +1,20 @@
 -- The shifts and the rotation to the right, by tag. Assumes nothing.
 use mathlib.Core.Path.{_≡_}
 use native.Mathlib.Omega.{arith}
-use borrow.Author.Needs.{needs}
 use Rattle.operate.proofs.shifts.Statement.{statement}
 use Rattle.operate.proofs.shifts.Tie as tie
 
 bv-shl-requires : tie.Need-bv-shl-requires
-bv-shl-requires c κs = search needs
+bv-shl-requires c κs = c .before .pre .2
 
 bv-lshr-requires : tie.Need-bv-lshr-requires
-bv-lshr-requires c κs = search needs
+bv-lshr-requires c κs = c .before .pre .2
 
 bv-ashr-requires : tie.Need-bv-ashr-requires
-bv-ashr-requires c κs = search needs
+bv-ashr-requires c κs = c .before .pre .2
 
 bv-rotr-requires : tie.Need-bv-rotr-requires
-bv-rotr-requires c κs = search needs
+bv-rotr-requires c κs = c .before .pre .2
 
 returns : tie.Need-returns
 returns c = rw (c .before .match .keys1) (c .bv-shl .ensures)

@@ -1,21 +1,20 @@
 -- The signed comparisons, by tag. Assumes nothing.
 use mathlib.Core.Path.{_≡_}
 use native.Mathlib.Omega.{arith}
-use borrow.Author.Needs.{needs}
 use Rattle.operate.proofs.signed_compares.Statement.{statement}
 use Rattle.operate.proofs.signed_compares.Tie as tie
 
 bv-slt-requires : tie.Need-bv-slt-requires
-bv-slt-requires c κs = search needs
+bv-slt-requires c κs = c .before .pre .2
 
 bv-sle-requires : tie.Need-bv-sle-requires
-bv-sle-requires c κs = search needs
+bv-sle-requires c κs = c .before .pre .2
 
 bv-sgt-requires : tie.Need-bv-sgt-requires
-bv-sgt-requires c κs = search needs
+bv-sgt-requires c κs = c .before .pre .2
 
 bv-sge-requires : tie.Need-bv-sge-requires
-bv-sge-requires c κs = search needs
+bv-sge-requires c κs = c .before .pre .2
 
 returns : tie.Need-returns
 returns c = rw (c .before .match .keys1) (c .bv-slt .ensures)

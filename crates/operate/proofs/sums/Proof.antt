@@ -1,24 +1,23 @@
 -- Add to Urem, by tag. Assumes nothing.
 use mathlib.Core.Path.{_≡_}
 use native.Mathlib.Omega.{arith}
-use borrow.Author.Needs.{needs}
 use Rattle.operate.proofs.sums.Statement.{statement}
 use Rattle.operate.proofs.sums.Tie as tie
 
 bv-add-requires : tie.Need-bv-add-requires
-bv-add-requires c κs = search needs
+bv-add-requires c κs = c .before .pre .2 .1
 
 bv-sub-requires : tie.Need-bv-sub-requires
-bv-sub-requires c κs = search needs
+bv-sub-requires c κs = (c .before .pre .2 .1, c .before .pre .2 .3)
 
 bv-mul-requires : tie.Need-bv-mul-requires
-bv-mul-requires c κs = search needs
+bv-mul-requires c κs = c .before .pre .2 .1
 
 bv-udiv-requires : tie.Need-bv-udiv-requires
-bv-udiv-requires c κs = search needs
+bv-udiv-requires c κs = c .before .pre .2
 
 bv-urem-requires : tie.Need-bv-urem-requires
-bv-urem-requires c κs = search needs
+bv-urem-requires c κs = c .before .pre .2
 
 returns : tie.Need-returns
 returns c = rw (c .before .match .keys1) (c .bv-add .ensures)

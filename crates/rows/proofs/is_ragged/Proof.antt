@@ -1,4 +1,4 @@
--- `rows::is_ragged` meets its contract. Assumes nothing.
+-- The remainder by the graph's row length, arm by arm. Assumes nothing.
 use borrow.Author.Needs.{needs}
 use Rattle.rows.proofs.is_ragged.Statement.{statement}
 use Rattle.rows.proofs.is_ragged.Tie as tie

@@ -1,4 +1,4 @@
--- `rows::node_eq` meets its contract: each return is a path through the definition's tests. Assumes nothing.
+-- Each return is a path through the definition's tests, in their order. Assumes nothing.
 use borrow.Author.Tests.{eq-eqb, ne-eqb}
 use borrow.Author.Needs.{needs}
 use Rattle.rows.proofs.node_eq.Statement.{statement}
@@ -11,7 +11,7 @@ array-read-if1-2 : tie.Need-array-read-if1-2
 array-read-if1-2 c = search needs
 
 returns : tie.Need-returns
-returns c = simp (ne-eqb _ _ (c .if1 .taken))
+returns c = rw (ne-eqb _ _ (c .if1 .taken))
 
 array-read-if2 : tie.Need-array-read-if2
 array-read-if2 c = search needs
@@ -20,7 +20,7 @@ array-read-if2-2 : tie.Need-array-read-if2-2
 array-read-if2-2 c = search needs
 
 returns-2 : tie.Need-returns-2
-returns-2 c = simp (eq-eqb _ _ (c .before .if1 .left), ne-eqb _ _ (c .if2 .taken))
+returns-2 c = rw (eq-eqb _ _ (c .before .if1 .left), ne-eqb _ _ (c .if2 .taken))
 
 array-read-if3 : tie.Need-array-read-if3
 array-read-if3 c = search needs
@@ -29,7 +29,7 @@ array-read-if3-2 : tie.Need-array-read-if3-2
 array-read-if3-2 c = search needs
 
 returns-3 : tie.Need-returns-3
-returns-3 c = simp (eq-eqb _ _ (c .before .before .if1 .left), eq-eqb _ _ (c .before .if2 .left), ne-eqb _ _ (c .if3 .taken))
+returns-3 c = rw (eq-eqb _ _ (c .before .before .if1 .left), eq-eqb _ _ (c .before .if2 .left), ne-eqb _ _ (c .if3 .taken))
 
 array-read-if4 : tie.Need-array-read-if4
 array-read-if4 c = search needs
@@ -38,7 +38,7 @@ array-read-if4-2 : tie.Need-array-read-if4-2
 array-read-if4-2 c = search needs
 
 returns-4 : tie.Need-returns-4
-returns-4 c = simp (eq-eqb _ _ (c .before .before .before .if1 .left), eq-eqb _ _ (c .before .before .if2 .left), eq-eqb _ _ (c .before .if3 .left), ne-eqb _ _ (c .if4 .taken))
+returns-4 c = rw (eq-eqb _ _ (c .before .before .before .if1 .left), eq-eqb _ _ (c .before .before .if2 .left), eq-eqb _ _ (c .before .if3 .left), ne-eqb _ _ (c .if4 .taken))
 
 array-read-result : tie.Need-array-read-result
 array-read-result c = search needs

@@ -1,4 +1,4 @@
--- `rows::row` meets its contract. Assumes nothing.
+-- The reader of either graph has the definition at that graph. Assumes nothing.
 use borrow.Author.Needs.{needs}
 use Rattle.rows.proofs.row.Statement.{statement}
 use Rattle.rows.proofs.row.Tie as tie

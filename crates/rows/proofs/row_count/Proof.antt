@@ -1,4 +1,4 @@
--- `rows::row_count` meets its contract. Assumes nothing.
+-- The length by the graph's row length, arm by arm. Assumes nothing.
 use borrow.Author.Needs.{needs}
 use Rattle.rows.proofs.row_count.Statement.{statement}
 use Rattle.rows.proofs.row_count.Tie as tie

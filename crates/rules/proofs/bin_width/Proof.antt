@@ -1,4 +1,4 @@
--- `rules::bin_width` meets its contract. Assumes nothing.
+-- The tests in the definition's order: Concat, the two Boolean tags, then equal widths; no width of a word passes the ceiling. Assumes nothing.
 use mathlib.Core.Path.{sym}
 use native.Mathlib.Omega.{arith}
 use borrow.Author.Tests.{eq-eqb, ne-eqb, lt-ltb, le-ltb}

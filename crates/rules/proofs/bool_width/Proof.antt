@@ -1,4 +1,4 @@
--- `rules::bool_width` meets its contract. Assumes nothing.
+-- Both widths are 1, or there is none. Assumes nothing.
 use borrow.Author.Tests.{ne-eqb}
 use Rattle.rules.proofs.bool_width.Statement.{statement}
 use Rattle.rules.proofs.bool_width.Tie as tie

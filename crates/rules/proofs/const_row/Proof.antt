@@ -1,4 +1,4 @@
--- `rules::const_row` meets its contract. Assumes nothing.
+-- Start and width within the bits, by differences that cannot wrap. Assumes nothing.
 use Prim.Native.Nat.{_+_, _<_, _≤_}
 use mathlib.Core.Path.{sym}
 use native.Mathlib.Omega.{arith}

@@ -1,4 +1,4 @@
--- `rules::extract_width` meets its contract. Assumes nothing.
+-- Both bounds in the definition's order; the part is no wider than the operand, so below the ceiling. Assumes nothing.
 use mathlib.Core.Path.{sym}
 use native.Mathlib.Omega.{arith}
 use borrow.Author.Tests.{lt-ltb, le-ltb, le-leb, lt-leb}

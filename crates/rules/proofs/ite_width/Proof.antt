@@ -1,4 +1,4 @@
--- `rules::ite_width` meets its contract. Assumes nothing.
+-- A condition of one bit, then equal arms. Assumes nothing.
 use mathlib.Core.Path.{sym}
 use native.Mathlib.Omega.{arith}
 use borrow.Author.Tests.{eq-eqb, ne-eqb}

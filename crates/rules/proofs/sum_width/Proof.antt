@@ -1,4 +1,4 @@
--- `rules::sum_width` meets its contract. Assumes nothing.
+-- The difference tells whether the sum passes the ceiling, so the sum itself never wraps. Assumes nothing.
 use Prim.Native.Nat.{_+_}
 use mathlib.Core.Path.{sym}
 use native.Mathlib.Omega.{arith}

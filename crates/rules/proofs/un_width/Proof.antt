@@ -1,4 +1,4 @@
--- `rules::un_width` meets its contract. Assumes nothing.
+-- Only Not asks for one bit; the others keep the width. Assumes nothing.
 use mathlib.Core.Path.{sym}
 use native.Mathlib.Omega.{arith}
 use borrow.Author.Tests.{eq-eqb, ne-eqb}

@@ -1,4 +1,4 @@
--- `rules::var_row` meets its contract. Assumes nothing.
+-- A word's width is never past the ceiling. Assumes nothing.
 use mathlib.Core.Path.{sym}
 use native.Mathlib.Omega.{arith}
 use Rattle.rules.proofs.Rule.{capped-word}

@@ -1,4 +1,4 @@
--- `sides::args_wf` meets its contract: a range past the list, or the search over its rows. Assumes nothing.
+-- A range past the list, or the search over its rows. Assumes nothing.
 use mathlib.Core.Path.{_∙_, sym}
 use native.Mathlib.Omega.{arith}
 use lib.ListN.{length}

@@ -1,4 +1,4 @@
--- `sides::call_row` meets its contract. Assumes nothing.
+-- The arguments decide; a word's width is never past the ceiling. Assumes nothing.
 use mathlib.Core.Path.{_∙_, sym}
 use native.Mathlib.Omega.{arith}
 use Rattle.rules.proofs.Rule.{capped-word}

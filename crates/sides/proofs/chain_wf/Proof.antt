@@ -1,4 +1,4 @@
--- `sides::chain_wf` meets its contract: a range past the list, or the search over its pairs. Assumes nothing.
+-- A range past the list, or the search over its pairs. Assumes nothing.
 use mathlib.Core.Path.{_∙_, sym}
 use native.Mathlib.Omega.{arith}
 use Rattle.rules.specs.Rule.{pairBad}

@@ -1,4 +1,4 @@
--- `sides::has_width` meets its contract. Assumes nothing.
+-- An earlier row, then its width. Assumes nothing.
 use borrow.Author.Tests.{lt-ltb, le-ltb}
 use borrow.Author.Needs.{needs}
 use Rattle.sides.proofs.has_width.Statement.{statement}

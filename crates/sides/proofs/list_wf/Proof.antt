@@ -1,4 +1,4 @@
--- `sides::list_wf` meets its contract: the loop is a search that finds none. Assumes nothing.
+-- Invariant: no row below l is bad; a search that finds none. Assumes nothing.
 use Prim.Native.Nat.{ℕ, _≤_, _<_, _-_}
 use mathlib.Core.Path.{_≡_, sym}
 use mathlib.Core.Bool.{false}

@@ -1,4 +1,4 @@
--- `sides::pair_bad` meets its contract. Assumes nothing.
+-- The index first, then the value, as in the definition. Assumes nothing.
 use mathlib.Core.Path.{_∙_, sym, ap}
 use mathlib.Core.Bool.{not}
 use borrow.Author.Tests.{not-true, not-false}

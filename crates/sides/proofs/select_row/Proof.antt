@@ -1,4 +1,4 @@
--- `sides::select_row` meets its contract. Assumes nothing.
+-- An earlier index row, its width, then the pairs. Assumes nothing.
 use mathlib.Core.Path.{_∙_, sym}
 use borrow.Author.Tests.{eq-eqb, ne-eqb, lt-ltb, le-ltb}
 use borrow.Author.Needs.{needs}

@@ -1,5 +1,5 @@
--- `wf::graph_wf` meets its contract: the list is the widths built so far and the rest as it was; the loop is the search for the first row that stops it. Assumes nothing.
-use Prim.Native.Nat.{ℕ, _≤_, _<_, _-_, _+_}
+-- Invariant: the list is the widths built so far and the rest as it was, and no row below i stops the pass. Assumes nothing.
+use Prim.Native.Nat.{ℕ, _≤_, _<_, _-_}
 use mathlib.Core.Path.{_≡_, refl, _∙_, sym, ap}
 use mathlib.Core.Bool.{false}
 use mathlib.Core.List.{_++_}

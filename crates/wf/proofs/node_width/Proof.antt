@@ -1,4 +1,4 @@
--- `wf::node_width` meets its contract: each arm's function has the definition at its constructor. Assumes nothing.
+-- Each arm's function has the definition at its constructor. Assumes nothing.
 use mathlib.Core.Path.{_∙_}
 use borrow.Author.Needs.{needs}
 use Rattle.wf.proofs.node_width.Statement.{statement}

@@ -1,4 +1,4 @@
--- `wf::roots_wf` meets its contract: the loop is the search `first`. Assumes nothing.
+-- Invariant: no root below i is bad; the search `first`. Assumes nothing.
 use Prim.Native.Nat.{ℕ, _≤_, _<_, _-_}
 use mathlib.Core.Path.{_≡_, sym}
 use mathlib.Core.Bool.{false}

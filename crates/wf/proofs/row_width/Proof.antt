@@ -1,4 +1,4 @@
--- `wf::row_width` meets its contract. Assumes nothing.
+-- A badly encoded row has width 0, any other that of its node. Assumes nothing.
 use mathlib.Core.Path.{_∙_, sym}
 use borrow.Author.Tests.{not-true, not-false}
 use borrow.Author.Needs.{needs}
