@@ -1,4 +1,4 @@
--- The laws of sums, products, parts and comparisons. Assumes nothing.
+-- The laws of sums, products and parts. Assumes nothing.
 pub mod Sums
 pub mod Highest
 pub mod Fits

@@ -53,7 +53,7 @@ fn ite_at(vs: &[u64], c: usize, t: usize, e: usize) -> u64
     requires { ⌜ (c < length (now vs)) × (t < length (now vs)) × (e < length (now vs)) ⌝ }
     ensures value { λ r. ⌜ r ≡ ite (getD (now (vs .entry)) c 0) (getD (now (vs .entry)) t 0) (getD (now (vs .entry)) e 0) ⌝ }
 {
-    arith::bv_ite(vs[c], vs[t], vs[e])
+    comparisons::bv_ite(vs[c], vs[t], vs[e])
 }
 
 // The number of a node after rows of widths ws and numbers vs; x is the word given for its row.

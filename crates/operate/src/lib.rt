@@ -80,12 +80,12 @@ fn compares(t: u64, w: u64, a: u64, b: u64) -> u64
     ensures value { λ r. ⌜ r ≡ evenNumber t w a b ⌝ }
 {
     match t {
-        19 => arith::bv_equal(a, b),
-        20 => arith::bv_distinct(a, b),
-        21 => arith::bv_ult(a, b),
-        22 => arith::bv_ule(a, b),
-        23 => arith::bv_ugt(a, b),
-        _ => arith::bv_uge(a, b),
+        19 => comparisons::bv_equal(a, b),
+        20 => comparisons::bv_distinct(a, b),
+        21 => comparisons::bv_ult(a, b),
+        22 => comparisons::bv_ule(a, b),
+        23 => comparisons::bv_ugt(a, b),
+        _ => comparisons::bv_uge(a, b),
     }
 }
 
@@ -95,10 +95,10 @@ fn signed_compares(t: u64, w: u64, a: u64, b: u64) -> u64
     ensures value { λ r. ⌜ r ≡ evenNumber t w a b ⌝ }
 {
     match t {
-        25 => arith::bv_slt(w, a, b),
-        26 => arith::bv_sle(w, a, b),
-        27 => arith::bv_sgt(w, a, b),
-        _ => arith::bv_sge(w, a, b),
+        25 => comparisons::bv_slt(w, a, b),
+        26 => comparisons::bv_sle(w, a, b),
+        27 => comparisons::bv_sgt(w, a, b),
+        _ => comparisons::bv_sge(w, a, b),
     }
 }
 

@@ -8,7 +8,8 @@ use native.Mathlib.Omega.{arith}
 use borrow.Author.Tests.{eqb-true}
 use lib.Dec.{eqb, ltb, leb}
 use lib.ListN.{length, getD}
-use Rattle.arith.proofs.Fits.{add-fits, sub-fits, mul-fits, ite-fits, equal-fits, distinct-fits, ult-fits, ule-fits, ugt-fits, uge-fits, slt-fits, sle-fits, sgt-fits, sge-fits, extract-fits, concat-fits, zero-extend-fits, sign-extend-fits}
+use Rattle.arith.proofs.Fits.{add-fits, sub-fits, mul-fits, extract-fits, concat-fits, zero-extend-fits, sign-extend-fits}
+use Rattle.comparisons.proofs.Fits.{ite-fits, equal-fits, distinct-fits, ult-fits, ule-fits, ugt-fits, uge-fits, slt-fits, sle-fits, sgt-fits, sge-fits}
 use Rattle.bv.proofs.Fits.{neg-fits}
 use Rattle.bitwise.proofs.Fits.{not-fits, and-fits, or-fits, xor-fits, shl-fits, lshr-fits, ashr-fits, rotr-fits, rotl-fits}
 use Rattle.divide.proofs.Fits.{udiv-fits, urem-fits, sdiv-fits, srem-fits}

@@ -1,6 +1,7 @@
 -- Add to Urem, by tag. Assumes nothing.
 use mathlib.Core.Path.{_≡_}
 use native.Mathlib.Omega.{arith}
+use borrow.Author.Needs.{needs}
 use Rattle.operate.proofs.sums.Statement.{statement}
 use Rattle.operate.proofs.sums.Tie as tie
 
@@ -8,7 +9,7 @@ bv-add-requires : tie.Need-bv-add-requires
 bv-add-requires c κs = c .before .pre .2 .1
 
 bv-sub-requires : tie.Need-bv-sub-requires
-bv-sub-requires c κs = (c .before .pre .2 .1, c .before .pre .2 .3)
+bv-sub-requires c κs = search needs
 
 bv-mul-requires : tie.Need-bv-mul-requires
 bv-mul-requires c κs = c .before .pre .2 .1

@@ -1,8 +1,8 @@
 -- Signed at most, by the signs and the unsigned test. Assumes nothing.
 use mathlib.Core.Path.{_∙_}
 use borrow.Author.Needs.{needs}
-use Rattle.arith.proofs.bv_sle.Statement.{statement}
-use Rattle.arith.proofs.bv_sle.Tie as tie
+use Rattle.comparisons.proofs.bv_sle.Statement.{statement}
+use Rattle.comparisons.proofs.bv_sle.Tie as tie
 
 bv-ule-requires : tie.Need-bv-ule-requires
 bv-ule-requires c κs = search needs

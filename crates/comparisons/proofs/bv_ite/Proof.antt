@@ -1,7 +1,7 @@
 -- The choice by a number of width 1. Assumes nothing.
 use borrow.Author.Tests.{eq-eqb, ne-eqb}
-use Rattle.arith.proofs.bv_ite.Statement.{statement}
-use Rattle.arith.proofs.bv_ite.Tie as tie
+use Rattle.comparisons.proofs.bv_ite.Statement.{statement}
+use Rattle.comparisons.proofs.bv_ite.Tie as tie
 
 returns : tie.Need-returns
 returns c = rw (eq-eqb _ _ (c .if1 .taken))

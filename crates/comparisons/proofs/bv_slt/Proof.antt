@@ -1,8 +1,8 @@
 -- Signed less than, by the signs and the unsigned test. Assumes nothing.
 use mathlib.Core.Path.{_∙_}
 use borrow.Author.Needs.{needs}
-use Rattle.arith.proofs.bv_slt.Statement.{statement}
-use Rattle.arith.proofs.bv_slt.Tie as tie
+use Rattle.comparisons.proofs.bv_slt.Statement.{statement}
+use Rattle.comparisons.proofs.bv_slt.Tie as tie
 
 bv-ult-requires : tie.Need-bv-ult-requires
 bv-ult-requires c κs = search needs

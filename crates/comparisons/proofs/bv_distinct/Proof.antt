@@ -1,7 +1,7 @@
 -- The test that two numbers differ. Assumes nothing.
 use borrow.Author.Tests.{eq-eqb, ne-eqb}
-use Rattle.arith.proofs.bv_distinct.Statement.{statement}
-use Rattle.arith.proofs.bv_distinct.Tie as tie
+use Rattle.comparisons.proofs.bv_distinct.Statement.{statement}
+use Rattle.comparisons.proofs.bv_distinct.Tie as tie
 
 returns : tie.Need-returns
 returns c = rw (eq-eqb _ _ (c .if1 .taken))

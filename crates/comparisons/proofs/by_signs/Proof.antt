@@ -1,8 +1,8 @@
 -- The answer by the signs of both: one return for each pair of signs. Assumes nothing.
 use mathlib.Core.Path.{_∙_, sym}
 use borrow.Author.Needs.{needs}
-use Rattle.arith.proofs.by_signs.Statement.{statement}
-use Rattle.arith.proofs.by_signs.Tie as tie
+use Rattle.comparisons.proofs.by_signs.Statement.{statement}
+use Rattle.comparisons.proofs.by_signs.Tie as tie
 
 is-negative-requires : tie.Need-is-negative-requires
 is-negative-requires c κs = search needs
