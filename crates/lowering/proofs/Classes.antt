@@ -40,9 +40,9 @@ module _ (B : Binding) where
   unfolding rowClasses
   row-length i cls = go (eqb (mapAt (B .map) i) MAX)
     where
-      go : (b : Bool) → length (cond b cls (nodeClasses B cls (mapAt (B .map) i) (nodeOf (rowAt Source (B .source) i)))) ≡ length cls
+      go : (b : Bool) → length (cond b cls (nodeClasses B cls (mapAt (B .map) i) (nodeOf (rowAt Source (B .source .rows) i)))) ≡ length cls
       go true = refl
-      go false = node-length cls (mapAt (B .map) i) (nodeOf (rowAt Source (B .source) i))
+      go false = node-length cls (mapAt (B .map) i) (nodeOf (rowAt Source (B .source .rows) i))
 
 pub classes-keep-length : (L : Lowering) (n : ℕ) → length (classes L n) ≡ length (classesOfTables L)
 unfolding trace

@@ -88,25 +88,25 @@ matched b refusal = cond b Accepted refusal
 
 -- the answer for a core row: "image equals the mapped row"
 abbrev pub coreAnswer : Binding → ℕ → ℕ → Node → Answer
-coreAnswer B i r node = matched (nodeMatches (B .map) (B .target) node r) (NodeMismatch i)
+coreAnswer B i r node = matched (nodeMatches (B .map) (B .target .rows) node r) (NodeMismatch i)
 
 -- the walk of a Select with image r
 abbrev pub selectWalk : Binding → ℕ → ℕ → ℕ → ℕ → Walk
-selectWalk B r j s k = walk (B .source) (B .ebits) (B .eside) (B .map) (B .target) j k s r
+selectWalk B r j s k = walk (B .source .rows) (B .source .bits) (B .source .side) (B .map) (B .target .rows) j k s r
 
 -- the answer for source row i, a node with image r: 7 to 11. The entry offsets are ent, the classes cls
 abbrev pub nodeAnswer : Binding → List ℕ → List ℕ → ℕ → ℕ → Node → Answer
-nodeAnswer B ent cls i r (Var w) = matched (varMatches (B .target) cls w r) (VarClass i)
+nodeAnswer B ent cls i r (Var w) = matched (varMatches (B .target .rows) cls w r) (VarClass i)
 nodeAnswer B ent cls i r (Const s w) =
-    matched (sameConst (B .ebits) (rowAt Source (B .source) i) (B .tbits) (rowAt Target (B .target) r)) (ConstMismatch i)
+    matched (sameConst (B .source .bits) (rowAt Source (B .source .rows) i) (B .target .bits) (rowAt Target (B .target .rows) r)) (ConstMismatch i)
 nodeAnswer B ent cls i r (Un t a) = coreAnswer B i r (Un t a)
 nodeAnswer B ent cls i r (Bin t a b) = coreAnswer B i r (Bin t a b)
 nodeAnswer B ent cls i r (Extract h l a) = coreAnswer B i r (Extract h l a)
 nodeAnswer B ent cls i r (Extend t a n) = coreAnswer B i r (Extend t a n)
 nodeAnswer B ent cls i r (Ite c t e) = coreAnswer B i r (Ite c t e)
-nodeAnswer B ent cls i r (Select a j s k) = matched (endGood (B .map) (B .reads) (B .target) ent cls a j (selectWalk B r j s k)) (ChainMismatch i)
+nodeAnswer B ent cls i r (Select a j s k) = matched (endGood (B .map) (B .reads) (B .target .rows) ent cls a j (selectWalk B r j s k)) (ChainMismatch i)
 nodeAnswer B ent cls i r (Call f w s k) =
-    matched (callMatches (B .eside) (B .map) (B .calls) (B .cargs) (B .target) ent cls f w s k r) (CallMismatch i)
+    matched (callMatches (B .source .side) (B .map) (B .calls) (B .cargs) (B .target .rows) ent cls f w s k r) (CallMismatch i)
 nodeAnswer B ent cls i r Unknown = NodeMismatch i
 
 -- "A row mapped to MAX is skipped"; 4: mapped past the target
@@ -114,7 +114,7 @@ unfoldable pub rowAnswer : Binding → List ℕ → List ℕ → ℕ → Answer
 rowAnswer B ent cls i =
     let r = mapAt (B .map) i in
     cond (eqb r MAX) Accepted
-    (cond (ltb r (rowCount Target (B .target))) (nodeAnswer B ent cls i r (nodeOf (rowAt Source (B .source) i))) (MapOutOfRange i))
+    (cond (ltb r (rowCount Target (B .target .rows))) (nodeAnswer B ent cls i r (nodeOf (rowAt Source (B .source .rows) i))) (MapOutOfRange i))
 
 -- the classes after a walk: the read variable "becomes 4"
 abbrev pub endClasses : List ℕ → Walk → List ℕ
@@ -136,7 +136,7 @@ nodeClasses B cls r (Call f w s k) = set cls r 5
 nodeClasses B cls r Unknown = cls
 
 unfoldable pub rowClasses : Binding → ℕ → List ℕ → List ℕ
-rowClasses B i cls = cond (eqb (mapAt (B .map) i) MAX) cls (nodeClasses B cls (mapAt (B .map) i) (nodeOf (rowAt Source (B .source) i)))
+rowClasses B i cls = cond (eqb (mapAt (B .map) i) MAX) cls (nodeClasses B cls (mapAt (B .map) i) (nodeOf (rowAt Source (B .source .rows) i)))
 
 -- "Rows go in order": the classes before row n, where cls are those before the rows
 abbrev pub classesTo : Binding → List ℕ → ℕ → List ℕ
@@ -144,12 +144,12 @@ classesTo B cls n = trace (rowClasses B) cls n
 
 -- the first row that is refused, or the number of rows
 abbrev pub refusedRow : Binding → List ℕ → List ℕ → ℕ
-refusedRow B ent cls = first (λ i. not (isAccepted (rowAnswer B ent (classesTo B cls i) i))) (rowCount Source (B .source))
+refusedRow B ent cls = first (λ i. not (isAccepted (rowAnswer B ent (classesTo B cls i) i))) (rowCount Source (B .source .rows))
 
 -- the answer of all rows: the first refusal
 abbrev pub allRowsAnswer : Binding → List ℕ → List ℕ → Answer
 allRowsAnswer B ent cls =
-    let i = refusedRow B ent cls in cond (ltb i (rowCount Source (B .source))) (rowAnswer B ent (classesTo B cls i) i) Accepted
+    let i = refusedRow B ent cls in cond (ltb i (rowCount Source (B .source .rows))) (rowAnswer B ent (classesTo B cls i) i) Accepted
 
 -- "Afterwards no class may be 2 or 3": the first variable of such a class, or the number of rows
 abbrev pub deadEntry : List ℕ → ℕ → ℕ

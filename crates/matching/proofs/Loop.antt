@@ -28,7 +28,7 @@ module _ (B : Binding) (ent cls : List ℕ) where
   refused i = not (isAccepted (answer i))
 
   abbrev count : ℕ
-  count = rowCount Source (B .source)
+  count = rowCount Source (B .source .rows)
 
   abbrev pub stop : ℕ
   stop = refusedRow B ent cls

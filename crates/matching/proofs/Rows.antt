@@ -83,33 +83,33 @@ module _ (B : Binding) (ent cls : List ℕ) (i r : ℕ) (e : List ℕ) where
   abbrev classes : Node → List ℕ
   classes node = nodeClasses B cls r node
 
-  pub var-answer : getD e 0 0 ≡ tVar → answer (nodeOf e) ≡ matched (varMatches (B .target) cls (getD e 1 0) r) (VarClass i)
+  pub var-answer : getD e 0 0 ≡ tVar → answer (nodeOf e) ≡ matched (varMatches (B .target .rows) cls (getD e 1 0) r) (VarClass i)
   var-answer h = rw h
 
   pub var-classes : getD e 0 0 ≡ tVar → classes (nodeOf e) ≡ set cls r 1
   var-classes h = rw h
 
-  pub const-answer : getD e 0 0 ≡ tConst → answer (nodeOf e) ≡ matched (sameConst (B .ebits) (rowAt Source (B .source) i) (B .tbits) (rowAt Target (B .target) r)) (ConstMismatch i)
+  pub const-answer : getD e 0 0 ≡ tConst → answer (nodeOf e) ≡ matched (sameConst (B .source .bits) (rowAt Source (B .source .rows) i) (B .target .bits) (rowAt Target (B .target .rows) r)) (ConstMismatch i)
   const-answer h = rw h
 
   pub const-classes : getD e 0 0 ≡ tConst → classes (nodeOf e) ≡ cls
   const-classes h = rw h
 
   pub select-answer : getD e 0 0 ≡ tSelect
-      → answer (nodeOf e) ≡ matched (endGood (B .map) (B .reads) (B .target) ent cls (getD e 1 0) (getD e 2 0) (selectWalk B r (getD e 2 0) (getD e 3 0) (getD e 4 0))) (ChainMismatch i)
+      → answer (nodeOf e) ≡ matched (endGood (B .map) (B .reads) (B .target .rows) ent cls (getD e 1 0) (getD e 2 0) (selectWalk B r (getD e 2 0) (getD e 3 0) (getD e 4 0))) (ChainMismatch i)
   select-answer h = rw h
 
   pub select-classes : getD e 0 0 ≡ tSelect → classes (nodeOf e) ≡ endClasses cls (selectWalk B r (getD e 2 0) (getD e 3 0) (getD e 4 0))
   select-classes h = rw h
 
   pub call-answer : getD e 0 0 ≡ tCall
-      → answer (nodeOf e) ≡ matched (callMatches (B .eside) (B .map) (B .calls) (B .cargs) (B .target) ent cls (getD e 1 0) (getD e 2 0) (getD e 3 0) (getD e 4 0) r) (CallMismatch i)
+      → answer (nodeOf e) ≡ matched (callMatches (B .source .side) (B .map) (B .calls) (B .cargs) (B .target .rows) ent cls (getD e 1 0) (getD e 2 0) (getD e 3 0) (getD e 4 0) r) (CallMismatch i)
   call-answer h = rw h
 
   pub call-classes : getD e 0 0 ≡ tCall → classes (nodeOf e) ≡ set cls r 5
   call-classes h = rw h
 
-  plain-node-answer : (node : Node) → Plain node → answer node ≡ matched (nodeMatches (B .map) (B .target) node r) (NodeMismatch i)
+  plain-node-answer : (node : Node) → Plain node → answer node ≡ matched (nodeMatches (B .map) (B .target .rows) node r) (NodeMismatch i)
   plain-node-answer (Un t a) p = refl
   plain-node-answer (Bin t a b) p = refl
   plain-node-answer (Extract h l a) p = refl
@@ -133,7 +133,7 @@ module _ (B : Binding) (ent cls : List ℕ) (i r : ℕ) (e : List ℕ) where
   plain-node-classes (Call f w s k) p = absurd p
   plain-node-classes Unknown p = absurd p
 
-  pub plain-answer : Plain (nodeOf e) → answer (nodeOf e) ≡ matched (nodeMatches (B .map) (B .target) (nodeOf e) r) (NodeMismatch i)
+  pub plain-answer : Plain (nodeOf e) → answer (nodeOf e) ≡ matched (nodeMatches (B .map) (B .target .rows) (nodeOf e) r) (NodeMismatch i)
   plain-answer p = plain-node-answer (nodeOf e) p
 
   pub plain-classes : Plain (nodeOf e) → classes (nodeOf e) ≡ cls

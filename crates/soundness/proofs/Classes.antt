@@ -115,10 +115,10 @@ module _ (L : Lowering) where
   unfolding varMatches
   var-passed i w e =
       let (a, (b, _)) = all-true _ (test-of _ (VarClass i) refl e) in
-      (row-is (rowAt Target (L .target) (m L i)) (Var w) tt a, eqb-true _ _ b)
+      (row-is (rowAt Target (L .target .rows) (m L i)) (Var w) tt a, eqb-true _ _ b)
 
   abbrev pub endOf : ℕ → ℕ → ℕ → Walk → Bool
-  endOf i a j o = endGood (L .map) (L .reads) (L .target) (offsets L) (classes L i) a j o
+  endOf i a j o = endGood (L .map) (L .reads) (L .target .rows) (offsets L) (classes L i) a j o
 
   pub ran-out : (i a j r : ℕ) → endOf i a j (RanOut r) ≡ true
       → (r < targetRows L) × (kind (getD (classes L i) r 0) ≡ 2) × (getD (L .reads) (getD (offsets L) r 0 + 1) 0 ≡ a) × (getD (L .reads) (getD (offsets L) r 0 + 2) 0 ≡ m L j)
@@ -134,11 +134,11 @@ module _ (L : Lowering) where
     pub args-here : (l : ℕ) → l < k → xs l ≡ getD (L .cargs) (getD (L .calls) (getD (offsets L) r 0 + 2) 0 + l) 0
 
   pub call-passed : (i f w s k : ℕ) → isAccepted (answerAt i (Call f w s k)) ≡ true
-      → (T L (m L i) ≡ Var w) × (kind (getD (classes L i) (m L i) 0) ≡ 3) × CallHere (m L i) f k (λ l. m L (getD (L .eside) (s + l) 0))
+      → (T L (m L i) ≡ Var w) × (kind (getD (classes L i) (m L i) 0) ≡ 3) × CallHere (m L i) f k (λ l. m L (getD (L .source .side) (s + l) 0))
   unfolding callMatches kind
   call-passed i f w s k e =
       let (a, (c, (_, (x, (y, (_, (z, _))))))) = all-true _ (test-of _ (CallMismatch i) refl e) in (
-        row-is (rowAt Target (L .target) (m L i)) (Var w) tt a,
+        row-is (rowAt Target (L .target .rows) (m L i)) (Var w) tt a,
         one-of (λ c. kind c ≡ 3) (getD (classes L i) (m L i) 0) 3 5 refl refl c,
         record { function-here = eqb-true _ _ x; count-here = eqb-true _ _ y; args-here = agree-at _ _ k z },
       )

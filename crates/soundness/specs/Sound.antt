@@ -24,20 +24,20 @@ module _ (L : Lowering) where
   abbrev pub ImagesAgree : Interpretation → (ℕ → ℕ) → Type 0
   ImagesAgree I A =
       (i : ℕ) → IsMapped i
-      → (mapAt (L .map) i < targetRows L) × (sourceValue (L .source) (L .ebits) (L .eside) I i ≡ value (L .tbits) A (L .target) (mapAt (L .map) i))
+      → (mapAt (L .map) i < targetRows L) × (sourceValue (L .source .rows) (L .source .bits) (L .source .side) I i ≡ value (L .target .bits) A (L .target .rows) (mapAt (L .map) i))
 
   -- an interpretation that makes the source's roots true, an assignment that makes the target's
   abbrev pub SourceTrue : Interpretation → Type 0
-  SourceTrue I = OfKind I (L .source) × RootsTrue (sourceValue (L .source) (L .ebits) (L .eside) I) (L .eroots)
+  SourceTrue I = OfKind I (L .source .rows) × RootsTrue (sourceValue (L .source .rows) (L .source .bits) (L .source .side) I) (L .eroots)
 
   abbrev pub TargetTrue : (ℕ → ℕ) → Type 0
-  TargetTrue A = Assigns A (L .target) × RootsTrue (value (L .tbits) A (L .target)) (L .troots)
+  TargetTrue A = Assigns A (L .target .rows) × RootsTrue (value (L .target .bits) A (L .target .rows)) (L .troots)
 
   abbrev pub SourceIsSatisfiable : Type 0
-  SourceIsSatisfiable = SourceSatisfiable (L .source) (L .ebits) (L .eside) (L .eroots)
+  SourceIsSatisfiable = SourceSatisfiable (L .source .rows) (L .source .bits) (L .source .side) (L .eroots)
 
   abbrev pub TargetIsSatisfiable : Type 0
-  TargetIsSatisfiable = TargetSatisfiable (L .target) (L .tbits) (L .troots)
+  TargetIsSatisfiable = TargetSatisfiable (L .target .rows) (L .target .bits) (L .troots)
 
 -- Demand 3, of one lowering: what a checker that accepts it says
 pub record Sound (L : Lowering) : Type 0 where

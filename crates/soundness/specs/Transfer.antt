@@ -24,7 +24,7 @@ module _ (L : Lowering) where
   origin r = first (λ i. eqb (mapAt (L .map) i) r) (sourceRows L)
 
   abbrev pub isOrigin : ℕ → ℕ → Bool
-  isOrigin r i = all (eqb (getD (rowAt Source (L .source) i) 0 0) tVar ∷ eqb (mapAt (L .map) i) r ∷ [])
+  isOrigin r i = all (eqb (getD (rowAt Source (L .source .rows) i) 0 0) tVar ∷ eqb (mapAt (L .map) i) r ∷ [])
 
   abbrev pub varOrigin : ℕ → ℕ
   varOrigin r = first (isOrigin r) (sourceRows L)
@@ -38,7 +38,7 @@ module _ (L : Lowering) where
   module _ (I : Interpretation) where
     -- the value of a source row with image r
     abbrev pub originValue : ℕ → Val
-    originValue r = sourceValue (L .source) (L .ebits) (L .eside) I (origin r)
+    originValue r = sourceValue (L .source .rows) (L .source .bits) (L .source .side) I (origin r)
 
     -- what an entry reads: its array at its index, its function at its arguments
     unfoldable pub readCell : ℕ → ℕ
@@ -51,7 +51,7 @@ module _ (L : Lowering) where
     unfoldable pub assignment : (ℕ → ℕ) → ℕ → ℕ
     assignment given r =
         cond (ltb (readOf r) (readCount (L .reads))) (readCell (readOf r))
-        (cond (ltb (callOf r) (callCount (L .calls))) (callResult (fieldAt (L .target) r 1) (callOf r))
+        (cond (ltb (callOf r) (callCount (L .calls))) (callResult (fieldAt (L .target .rows) r 1) (callOf r))
         (cond (ltb (varOrigin r) (sourceRows L)) (I .variable (varOrigin r)) (given r)))
 
 -- two lists of values are one
@@ -66,7 +66,7 @@ sameVals (u ∷ us) (v ∷ vs) = all (sameVal u v ∷ sameVals us vs ∷ [])
 
 module _ (L : Lowering) (A : ℕ → ℕ) where
   abbrev pub targetValue : ℕ → Val
-  targetValue r = value (L .tbits) A (L .target) r
+  targetValue r = value (L .target .bits) A (L .target .rows) r
 
   -- an entry of array a whose index has the number x; one of function f with result width w whose arguments have these values
   unfoldable pub readHit : ℕ → ℕ → ℕ → Bool
@@ -76,7 +76,7 @@ module _ (L : Lowering) (A : ℕ → ℕ) where
   callHit f w vs q =
       all
       (eqb (callFunction (L .calls) q) f
-      ∷ eqb (fieldAt (L .target) (callVar (L .calls) q) 1) w
+      ∷ eqb (fieldAt (L .target .rows) (callVar (L .calls) q) 1) w
       ∷ sameVals (tabulate (λ l. targetValue (callArg (L .calls) (L .cargs) q l)) (argCount (L .calls) q)) vs
       ∷ [])
 

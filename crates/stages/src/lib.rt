@@ -1,7 +1,7 @@
 // The stages of Check but the rows: counts, forms of both graphs, tables, roots, and the lists of a refusal.
 ghost use mathlib.Core.Path.{_≡_};
 ghost use mathlib.Core.Bool.{true, false};
-ghost use mathlib.Core.List.{List, [], _++_};
+ghost use mathlib.Core.List.{[], _++_};
 ghost use Prim.Native.Nat.{ℕ, _<_, _≤_};
 ghost use lib.ListN.{length, drop, replicate};
 ghost use Rattle.answers.specs.Answer.{isAccepted};
@@ -10,6 +10,7 @@ ghost use Rattle.rows.specs.Row.{rowCount};
 ghost use Rattle.rows.specs.Encoding.{rowBad};
 ghost use Rattle.wf.specs.Widths.{widths};
 ghost use Rattle.lowering.specs.Tables.{readCount, callCount, readClasses, callClasses, readOffsets, callOffsets};
+ghost use Rattle.lowering.specs.Lowering.{SourceGraph, TargetGraph, sourceGraph, targetGraph};
 ghost use Rattle.lowering.specs.Check.{firstRefusal, countAnswers, graphAnswers, graphsAnswer, tableAnswers, rootAnswers};
 ghost use Rattle.images.specs.Bits.{ConstsWithin};
 ghost use Rattle.pairs.specs.Walk.{ReadsIn};
@@ -26,7 +27,8 @@ pub fn count_answer(
     c: usize,
     e: usize,
 ) -> Answer
-    ensures answer { λ r. ⌜ ((s t : List ℕ) → length s ≡ source → length t ≡ target → r ≡ firstRefusal (countAnswers s t w0 w1 c e)) ⌝ }
+    ensures answer { λ r. ⌜ ((S : SourceGraph) (T : TargetGraph) → length (S .rows) ≡ source → length (T .rows) ≡ target
+        → r ≡ firstRefusal (countAnswers S T w0 w1 c e)) ⌝ }
 {
     if source % 5 != 0 {
         return Answer::RowCount(1);
@@ -63,8 +65,8 @@ fn graph_answer(
     requires { ⌜ ((j : ℕ) → j < stop0 → rowBad Graph.Source (now source) j ≡ false) ⌝ }
     requires { ⌜ stop1 ≤ rowCount Graph.Target (now target) ⌝ }
     requires { ⌜ ((j : ℕ) → j < stop1 → rowBad Graph.Target (now target) j ≡ false) ⌝ }
-    ensures answer { λ r. ⌜ r ≡ firstRefusal (graphAnswers (now (source .entry)) (now (ebits .entry)) (now (target .entry))
-        (now (tbits .entry)) stop0 stop1) ⌝ }
+    ensures answer { λ r. ⌜ r ≡ firstRefusal (graphAnswers (sourceGraph (now (source .entry)) (now (ebits .entry)) [])
+        (targetGraph (now (target .entry)) (now (tbits .entry))) stop0 stop1) ⌝ }
 {
     let row0 = rows::bad_row(Graph::Source, source, stop0);
     if row0 < rows::row_count(Graph::Source, source) {
@@ -103,8 +105,8 @@ pub fn graphs(
 ) -> Answer
     requires { ⌜ rowCount Graph.Source (now source) ≤ length (now ws0) ⌝ }
     requires { ⌜ rowCount Graph.Target (now target) ≤ length (now ws1) ⌝ }
-    ensures answer { λ r. ⌜ r ≡ graphsAnswer (now (source .entry)) (now (ebits .entry)) (now (eside .entry)) (now (target .entry))
-        (now (tbits .entry)) ⌝ }
+    ensures answer { λ r. ⌜ r ≡ graphsAnswer (sourceGraph (now (source .entry)) (now (ebits .entry)) (now (eside .entry)))
+        (targetGraph (now (target .entry)) (now (tbits .entry))) ⌝ }
     ensures source_list { λ r. ⌜ (isAccepted r ≡ true → now (ws0 .exit)
         ≡ widths Graph.Source (length (now (ebits .entry))) (now (eside .entry)) (now (source .entry))
         ++ drop (rowCount Graph.Source (now (source .entry))) (now (ws0 .entry))) ⌝ }
