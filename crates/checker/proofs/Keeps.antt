@@ -10,16 +10,15 @@ use Rattle.answers.specs.declared.Answer.the-variants.{Accepted, RowCount, Work
 use Rattle.answers.specs.Answer.{isAccepted, keeps}
 use Rattle.lists.proofs.Choice.{no-way}
 use Rattle.rows.specs.declared.Graph.the-variants.{Source, Target}
-use Rattle.rows.specs.declared.Node.{Node}
-use Rattle.rows.specs.declared.Node.the-variants.{Var, Const, Un, Bin, Extract, Extend, Ite, Select, Call, Unknown}
 use Rattle.rows.specs.Row.{rowCount, rowAt, ragged}
 use Rattle.rows.specs.Node.{nodeOf}
 use Rattle.rows.specs.Encoding.{badRow, badBit}
 use Rattle.lowering.specs.Images.{MAX, mapAt, sameConst}
 use Rattle.lowering.specs.Tables.{readCount, callCount, badRead, badCall}
 use Rattle.lowering.specs.Roots.{Pair, badLead, badCong, readPairs, callPairs, readRoot, callRoot}
-use Rattle.lowering.specs.Matching.{selectWalk, endGood, callMatches, varMatches, nodeMatches, matched, nodeAnswer, rowAnswer}
-use Rattle.lowering.specs.Lowering.{SourceGraph, TargetGraph, Lowering, Binding, bindingOf, sourceRows, targetRows}
+use Rattle.lowering.specs.Matching.{Noted, noted, mappedArg, selectWalk, endGood, callMatches, varMatches, nodeMatches, matched}
+use Rattle.lowering.specs.Matching.{Kind, var, const, core, select, call, unknown, kindOf, kindAnswer, nodeAnswer, rowAnswer}
+use Rattle.lowering.specs.Lowering.{SourceGraph, TargetGraph, Lowering, Binding, bindingOf, entriesOf, sourceRows, targetRows}
 use Rattle.lowering.specs.Check.{widthsOfTarget, noClasses, classesOfReads, deadVariable, answerOf, mismatch, offsets, classes, refuse, firstRefusal, countAnswers, graphAnswers, rootAnswers, matchAnswers}
 
 -- a test's refusal, where it is none of the two
@@ -85,29 +84,26 @@ keeps-graphs S T x y = keeps-first (graphAnswers S T x y) (row0, (row1, (bit0, (
     ill1 : keeps (refuse (ltb y (rowCount Target (T .rows))) (Core y)) ≡ false
     ill1 = keeps-refuse (ltb y (rowCount Target (T .rows))) (Core y) refl
 
-module _ (B : Binding) (ent cls : List ℕ) (i r : ℕ) where
-  keeps-node : (node : Node) → keeps (nodeAnswer B ent cls i r node) ≡ false
-  keeps-node (Var w) = keeps-matched (varMatches (B .target .rows) cls w r) (VarClass i) refl
-  keeps-node (Const s w) = keeps-matched (sameConst (B .source .bits) (rowAt Source (B .source .rows) i) (B .target .bits) (rowAt Target (B .target .rows) r)) (ConstMismatch i) refl
-  keeps-node (Un t a) = keeps-matched (nodeMatches (B .map) (B .target .rows) (Un t a) r) (NodeMismatch i) refl
-  keeps-node (Bin t a b) = keeps-matched (nodeMatches (B .map) (B .target .rows) (Bin t a b) r) (NodeMismatch i) refl
-  keeps-node (Extract h l a) = keeps-matched (nodeMatches (B .map) (B .target .rows) (Extract h l a) r) (NodeMismatch i) refl
-  keeps-node (Extend t a n) = keeps-matched (nodeMatches (B .map) (B .target .rows) (Extend t a n) r) (NodeMismatch i) refl
-  keeps-node (Ite c t e) = keeps-matched (nodeMatches (B .map) (B .target .rows) (Ite c t e) r) (NodeMismatch i) refl
-  keeps-node (Select a j s k) = keeps-matched (endGood (B .map) (B .reads) (B .target .rows) ent cls a j (selectWalk B r j s k)) (ChainMismatch i) refl
-  keeps-node (Call f w s k) = keeps-matched (callMatches (B .source .side) (B .map) (B .calls) (B .cargs) (B .target .rows) ent cls f w s k r) (CallMismatch i) refl
-  keeps-node Unknown = refl
+keeps-kind : (B : Binding) (N : Noted) (i r : ℕ) (k : Kind) → keeps (kindAnswer B N i r k) ≡ false
+keeps-kind B N i r (var w) = keeps-matched (varMatches (B .target .rows) (N .classes) w r) (VarClass i) refl
+keeps-kind B N i r const =
+    keeps-matched (sameConst (B .source .bits) (rowAt Source (B .source .rows) i) (B .target .bits) (rowAt Target (B .target .rows) r)) (ConstMismatch i) refl
+keeps-kind B N i r (core node) = keeps-matched (nodeMatches (B .map) (B .target .rows) node r) (NodeMismatch i) refl
+keeps-kind B N i r (select a j s k) = keeps-matched (endGood (B .map) (B .reads) (B .target .rows) N a j (selectWalk B r j s k)) (ChainMismatch i) refl
+keeps-kind B N i r (call f w s k) =
+    keeps-matched (callMatches (B .calls) (B .cargs) (B .target .rows) N f w k (mappedArg (B .map) (B .source .side) s) r) (CallMismatch i) refl
+keeps-kind B N i r unknown = refl
 
 keeps-row : (L : Lowering) (i : ℕ) → keeps (answerOf L i) ≡ false
 unfolding rowAnswer
 keeps-row L i = go (eqb (mapAt (L .map) i) MAX) (ltb (mapAt (L .map) i) (rowCount Target (L .target .rows)))
   where
     node : Answer
-    node = nodeAnswer (bindingOf L) (offsets L) (classes L i) i (mapAt (L .map) i) (nodeOf (rowAt Source (L .source .rows) i))
+    node = nodeAnswer (bindingOf L) (noted (classes L i) (offsets L)) i (mapAt (L .map) i) (nodeOf (rowAt Source (L .source .rows) i))
 
     go : (b c : Bool) → keeps (cond b Accepted (cond c node (MapOutOfRange i))) ≡ false
     go true c = refl
-    go false true = keeps-node (bindingOf L) (offsets L) (classes L i) i (mapAt (L .map) i) (nodeOf (rowAt Source (L .source .rows) i))
+    go false true = keeps-kind (bindingOf L) (noted (classes L i) (offsets L)) i (mapAt (L .map) i) (kindOf (nodeOf (rowAt Source (L .source .rows) i)))
     go false false = refl
 
 module _ (L : Lowering) where
@@ -117,7 +113,7 @@ module _ (L : Lowering) where
   abbrev c : ℕ
   c = badCall (L .calls) (L .cargs) (L .target .rows) (classesOfReads L)
 
-  keeps-roots : Zero (rootAnswers (L .eroots) (L .map) (L .reads) (L .calls) (L .cargs) (L .target .rows) (L .target .bits) (L .troots))
+  keeps-roots : Zero (rootAnswers (entriesOf L) (L .target) (L .map) (L .eroots) (L .troots))
   keeps-roots = (keeps-refuse (ltb lead (length (L .eroots))) (RootMismatch lead) refl, (keeps-refuse (ltb x (length ps)) (CongruenceMismatch (length (L .eroots) + x)) refl, (keeps-refuse (ltb y (length qs)) (CongruenceMismatch (length (L .eroots) + length ps + y)) refl, (keeps-refuse (not (eqb (length (L .troots)) (length (L .eroots) + length ps + length qs))) (RootMismatch 0) refl, tt))))
     where
       lead : ℕ

@@ -24,7 +24,7 @@ use Rattle.lowering.proofs.Inversion.{Each, each, not-refused}
 use Rattle.lowering.proofs.Marks.{marks-length}
 use Rattle.lowering.proofs.Refusals.{refusal-append}
 use Rattle.matching.specs.Ready.{Formed}
-use Rattle.stages.proofs.Form.{no-stop-source, no-stop-target}
+use Rattle.forms.proofs.Form.{no-stop-source, no-stop-target}
 use Rattle.checker.proofs.Keeps.{keeps-count, keeps-graphs, keeps-match}
 
 -- a list of widths has one for each row, and stands in front
@@ -137,7 +137,7 @@ module _ (L : Lowering) (ws0 ws1 cls ent : List ℕ) where
     room-3 = let (_, (_, (_, (_, (_, (e, _)))))) = tests in room 4 (length ent) (targetRows L) e
 
   -- forms that pass are well formed
-  pub forms-formed : isAccepted forms ≡ true → Formed (L .source .rows) (L .source .bits) (L .source .side) (L .target .rows) (L .target .bits)
+  pub forms-formed : isAccepted forms ≡ true → Formed (L .source) (L .target)
   forms-formed g =
       record {
         source-formed = well-formed Source (length (L .source .bits)) (L .source .side) (L .source .rows) (no-stop-source (L .source) (L .target) (sourceIll (L .source)) (targetIll (L .target)) g);

@@ -12,9 +12,9 @@ use Rattle.rows.specs.declared.Graph.the-variants.{Source, Target}
 use Rattle.rows.specs.Row.{rowCount, ragged}
 use Rattle.rows.specs.Encoding.{badRow, badBit}
 use Rattle.wf.specs.Widths.{illRow, widths}
-use Rattle.lowering.specs.Lowering.{SourceGraph, TargetGraph, Lowering, sourceRows, targetRows, bindingOf}
+use Rattle.lowering.specs.Lowering.{SourceGraph, TargetGraph, Lowering, Entries, sourceRows, targetRows, bindingOf, entriesOf}
 use Rattle.lowering.specs.Tables.{readCount, callCount, badRead, badCall, readClasses, callClasses, readOffsets, callOffsets}
-use Rattle.lowering.specs.Matching.{rowAnswer, classesTo, refusedRow, allRowsAnswer, deadEntry}
+use Rattle.lowering.specs.Matching.{noted, rowAnswer, classesTo, refusedRow, allRowsAnswer, deadEntry}
 use Rattle.lowering.specs.Roots.{Pair, badLead, readPairs, callPairs, readRoot, callRoot, badCong}
 
 -- the row of each graph that is named as ill-formed, or the number of rows
@@ -49,13 +49,13 @@ module _ (L : Lowering) where
 
   -- the answer of row i, the first row that is refused, and the answer of all rows
   abbrev pub answerOf : ℕ → Answer
-  answerOf i = rowAnswer (bindingOf L) offsets (classes i) i
+  answerOf i = rowAnswer (bindingOf L) (noted (classes i) offsets) i
 
   abbrev pub mismatch : ℕ
-  mismatch = refusedRow (bindingOf L) offsets classesOfTables
+  mismatch = refusedRow (bindingOf L) (noted classesOfTables offsets)
 
   abbrev pub rowsRefusal : Answer
-  rowsRefusal = allRowsAnswer (bindingOf L) offsets classesOfTables
+  rowsRefusal = allRowsAnswer (bindingOf L) (noted classesOfTables offsets)
 
   abbrev pub deadVariable : ℕ
   deadVariable = deadEntry (classes (sourceRows L)) (targetRows L)
@@ -111,14 +111,14 @@ graphsAnswer S T = firstRefusal (graphAnswers S T (sourceIll S) (targetIll T))
 
 -- "12 RootMismatch; 13 CongruenceMismatch (position in the target root list, possibly its length); 12 for surplus roots."
 -- The place of 12 is the position of the first source root that has no image, differs or finds the list ended; roots left over have none
-abbrev pub rootAnswers : List ℕ → List ℕ → List ℕ → List ℕ → List ℕ → List ℕ → List ℕ → List ℕ → List Answer
-rootAnswers eroots map reads calls cargs target tbits troots =
+abbrev pub rootAnswers : Entries → TargetGraph → List ℕ → List ℕ → List ℕ → List Answer
+rootAnswers E T map eroots troots =
     let lead = badLead map eroots troots in
-    let ps = readPairs reads target tbits in
-    let qs = callPairs calls in
+    let ps = readPairs (E .reads) (T .rows) (T .bits) in
+    let qs = callPairs (E .calls) in
     let from = length eroots + length ps in
-    let r = badCong troots (readRoot reads target) (length eroots) ps in
-    let c = badCong troots (callRoot calls cargs target) from qs in
+    let r = badCong troots (readRoot (E .reads) (T .rows)) (length eroots) ps in
+    let c = badCong troots (callRoot (E .calls) (E .cargs) (T .rows)) from qs in
     refuse (ltb lead (length eroots)) (RootMismatch lead)
     ∷ refuse (ltb r (length ps)) (CongruenceMismatch (length eroots + r))
     ∷ refuse (ltb c (length qs)) (CongruenceMismatch (from + c))
@@ -126,21 +126,21 @@ rootAnswers eroots map reads calls cargs target tbits troots =
     ∷ []
 
 -- "5 ReadTable (entry); 6 CallTable (entry)", over the target's widths and its classes, "first 0"
-abbrev pub tableAnswers : List ℕ → List ℕ → List ℕ → List ℕ → List ℕ → List ℕ → List Answer
-tableAnswers reads calls cargs target ws cls =
-    let r = badRead reads target ws cls in
-    let c = badCall calls cargs target (readClasses reads cls (readCount reads)) in
-    refuse (ltb r (readCount reads)) (ReadTable r) ∷ refuse (ltb c (callCount calls)) (CallTable c) ∷ []
+abbrev pub tableAnswers : Entries → List ℕ → List ℕ → List ℕ → List Answer
+tableAnswers E target ws cls =
+    let r = badRead (E .reads) target ws cls in
+    let c = badCall (E .calls) (E .cargs) target (readClasses (E .reads) cls (readCount (E .reads))) in
+    refuse (ltb r (readCount (E .reads))) (ReadTable r) ∷ refuse (ltb c (callCount (E .calls))) (CallTable c) ∷ []
 
 -- "3 MapLength (expected, found); 5 ReadTable (entry); 6 CallTable (entry) .. Then by row 4 .. 11. Then 14 DeadEntry (first variable)", then the
 -- roots
 abbrev pub matchAnswers : Lowering → List Answer
 matchAnswers L =
     refuse (not (eqb (length (L .map)) (sourceRows L))) (MapLength (sourceRows L) (length (L .map)))
-    ∷ tableAnswers (L .reads) (L .calls) (L .cargs) (L .target .rows) (widthsOfTarget L) (noClasses L)
+    ∷ tableAnswers (entriesOf L) (L .target .rows) (widthsOfTarget L) (noClasses L)
     ++ (rowsRefusal L
     ∷ refuse (ltb (deadVariable L) (targetRows L)) (DeadEntry (deadVariable L))
-    ∷ rootAnswers (L .eroots) (L .map) (L .reads) (L .calls) (L .cargs) (L .target .rows) (L .target .bits) (L .troots))
+    ∷ rootAnswers (entriesOf L) (L .target) (L .map) (L .eroots) (L .troots))
 
 -- the answer, with room for some words in each of the four lists
 abbrev pub checkAnswer : Lowering → ℕ → ℕ → ℕ → ℕ → Answer

@@ -46,6 +46,15 @@ lowering source ebits eside eroots map reads calls cargs target tbits troots =
       troots = troots;
     }
 
+-- the entries of the two tables: reads, calls and the calls' arguments
+pub record Entries : Type 0 where
+  pub reads : List ℕ
+  pub calls : List ℕ
+  pub cargs : List ℕ
+
+abbrev pub entries : List ℕ → List ℕ → List ℕ → Entries
+entries reads calls cargs = record { reads = reads; calls = calls; cargs = cargs }
+
 -- what a row's match is asked of: a lowering without its roots
 pub record Binding : Type 0 where
   pub source : SourceGraph
@@ -68,3 +77,6 @@ module _ (L : Lowering) where
 
   abbrev pub bindingOf : Binding
   bindingOf = record { source = L .source; target = L .target; map = L .map; reads = L .reads; calls = L .calls; cargs = L .cargs }
+
+  abbrev pub entriesOf : Entries
+  entriesOf = entries (L .reads) (L .calls) (L .cargs)

@@ -19,7 +19,7 @@ use Rattle.lowering.specs.declared.Walk.{Walk}
 use Rattle.lowering.specs.declared.Walk.the-variants.{RanOut, Met, Lost}
 use Rattle.lowering.specs.Images.{mapAt, unequalConst}
 use Rattle.lowering.specs.Tables.{readCount, readVar, readArray, readIndex, callCount, callVar, callFunction, argCount, callArg, sameFunction}
-use Rattle.lowering.specs.Matching.{walk}
+use Rattle.lowering.specs.Matching.{walk, mappedArg}
 use Rattle.lowering.specs.Roots.{congruent}
 use Rattle.lowering.specs.Lowering.{Lowering, sourceRows, targetRows}
 use Rattle.lowering.specs.Check.{widthsOfSource, widthsOfTarget}
@@ -85,7 +85,7 @@ module _ (L : Lowering) where
   Ends a j Lost = ⊥
 
   abbrev pub walkOf : ℕ → ℕ → ℕ → ℕ → Walk
-  walkOf j k s r = walk (L .source .rows) (L .source .bits) (L .source .side) (L .map) (L .target .rows) j k s r
+  walkOf j k s r = walk (L .source) (L .map) (L .target .rows) j k s r
 
   -- what is found at the image of row i, by its node
   abbrev pub Found : ℕ → Node → Type 0
@@ -97,7 +97,7 @@ module _ (L : Lowering) where
   Found i (Extend t a n) = SameCore (Extend t a n) (T (m i))
   Found i (Ite c t e) = SameCore (Ite c t e) (T (m i))
   Found i (Select a j s k) = Ends a j (walkOf j k s (m i))
-  Found i (Call f w s k) = (T (m i) ≡ Var w) × ((q : ℕ) × CallOf q (m i) f k (λ l. m (getD (L .source .side) (s + l) 0)))
+  Found i (Call f w s k) = (T (m i) ≡ Var w) × ((q : ℕ) × CallOf q (m i) f k (mappedArg (L .map) (L .source .side) s))
   Found i Unknown = ⊥
 
   -- a read entry: its variable is a row of the array's cell width, its index an image of the array's index width

@@ -90,4 +90,4 @@ module _ (L : Lowering) (P : Passed L) (F : Formed L) (small : targetRows L ≤ 
   found i x Unknown n e = no-way (sym e)
 
   pub of-row : (i : ℕ) → Mapped L i → Found L i (S L i)
-  of-row i x = found i x (S L i) refl (mapped-passed L P F small i x)
+  of-row i x = found i x (S L i) refl (mapped-passed L P small i x)

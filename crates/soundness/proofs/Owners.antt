@@ -44,7 +44,7 @@ module _ (L : Lowering) where
 module _ (L : Lowering) (P : Passed L) (F : Formed L) (small : targetRows L ≤ MAX) where
   -- a mapped variable's image is free before its row and in class 1 after it
   var-free : (i w : ℕ) → Mapped L i → S L i ≡ Var w → getD (classes L i) (m L i) 0 ≡ 0
-  var-free i w x e = var-passed L i w (subst (λ (n : Node). isAccepted (answerAt L i n) ≡ true) e (mapped-passed L P F small i x)) .1
+  var-free i w x e = var-passed L i w (subst (λ (n : Node). isAccepted (answerAt L i n) ≡ true) e (mapped-passed L P small i x)) .1
 
   var-after : (i w : ℕ) → Mapped L i → S L i ≡ Var w → getD (classes L (suc i)) (m L i) 0 ≡ 1
   unfolding trace rowClasses

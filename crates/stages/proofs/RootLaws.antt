@@ -11,6 +11,7 @@ use Rattle.answers.specs.declared.Answer.{Answer}
 use Rattle.answers.specs.declared.Answer.the-variants.{Accepted, RootMismatch, CongruenceMismatch}
 use Rattle.lists.proofs.First.{first-le}
 use Rattle.lowering.specs.Roots.{Pair, pair, rootAt, readPairs, callPairs, readRoot, callRoot, badLead, badCong}
+use Rattle.lowering.specs.Lowering.{TargetGraph, Entries}
 use Rattle.lowering.specs.Check.{firstRefusal, rootAnswers}
 use Rattle.pairs.specs.declared.Cong.{Cong}
 use Rattle.pairs.specs.Walk.{walked}
@@ -33,21 +34,21 @@ module _ (tr : List ℕ) (test : ℕ → Pair → Bool) (from : ℕ) (ps : List 
   all-stand : eqb (badCong tr test from ps) (length ps) ≡ true → length ps ≤ badCong tr test from ps
   all-stand e = let q = eqb-true (badCong tr test from ps) (length ps) e in omega arith
 
-module _ (er map reads calls cargs t tb tr : List ℕ) where
+module _ (E : Entries) (T : TargetGraph) (map er tr : List ℕ) where
   abbrev pub ps : List Pair
-  ps = readPairs reads t tb
+  ps = readPairs (E .reads) (T .rows) (T .bits)
 
   abbrev pub qs : List Pair
-  qs = callPairs calls
+  qs = callPairs (E .calls)
 
   abbrev pub bad0 : ℕ
-  bad0 = badCong tr (readRoot reads t) (length er) ps
+  bad0 = badCong tr (readRoot (E .reads) (T .rows)) (length er) ps
 
   abbrev pub bad1 : ℕ
-  bad1 = badCong tr (callRoot calls cargs t) (length er + length ps) qs
+  bad1 = badCong tr (callRoot (E .calls) (E .cargs) (T .rows)) (length er + length ps) qs
 
   abbrev answer : Answer
-  answer = firstRefusal (rootAnswers er map reads calls cargs t tb tr)
+  answer = firstRefusal (rootAnswers E T map er tr)
 
   pub lead-12 : badLead map er tr < length er → answer ≡ RootMismatch (badLead map er tr)
   unfolding firstRefusal
@@ -56,22 +57,22 @@ module _ (er map reads calls cargs t tb tr : List ℕ) where
   module _ (a : length er ≤ badLead map er tr) where
     pub read-13 : eqb bad0 (length ps) ≡ false → answer ≡ CongruenceMismatch (length er + bad0)
     unfolding firstRefusal
-    read-13 e = rw (le-ltb _ _ a, lt-ltb _ _ (not-all tr (readRoot reads t) (length er) ps e))
+    read-13 e = rw (le-ltb _ _ a, lt-ltb _ _ (not-all tr (readRoot (E .reads) (T .rows)) (length er) ps e))
 
     module _ (b : eqb bad0 (length ps) ≡ true) where
       pub call-13 : eqb bad1 (length qs) ≡ false → answer ≡ CongruenceMismatch (length er + length ps + bad1)
       unfolding firstRefusal
-      call-13 e = rw (le-ltb _ _ a, le-ltb _ _ (all-stand tr (readRoot reads t) (length er) ps b), lt-ltb _ _ (not-all tr (callRoot calls cargs t) (length er + length ps) qs e))
+      call-13 e = rw (le-ltb _ _ a, le-ltb _ _ (all-stand tr (readRoot (E .reads) (T .rows)) (length er) ps b), lt-ltb _ _ (not-all tr (callRoot (E .calls) (E .cargs) (T .rows)) (length er + length ps) qs e))
 
       module _ (d : eqb bad1 (length qs) ≡ true) where
         pub surplus-12 : (length er + length ps + bad1 ≡ length tr → ⊥) → answer ≡ RootMismatch 0
         unfolding firstRefusal
         surplus-12 n =
             let e : length tr ≡ length er + length ps + length qs → ⊥ = λ q. n (ap (λ (z : ℕ). length er + length ps + z) (eqb-true bad1 (length qs) d) ∙ sym q) in
-            rw (le-ltb _ _ a, le-ltb _ _ (all-stand tr (readRoot reads t) (length er) ps b), le-ltb _ _ (all-stand tr (callRoot calls cargs t) (length er + length ps) qs d), ne-eqb _ _ e)
+            rw (le-ltb _ _ a, le-ltb _ _ (all-stand tr (readRoot (E .reads) (T .rows)) (length er) ps b), le-ltb _ _ (all-stand tr (callRoot (E .calls) (E .cargs) (T .rows)) (length er + length ps) qs d), ne-eqb _ _ e)
 
         pub roots-good : length er + length ps + bad1 ≡ length tr → answer ≡ Accepted
         unfolding firstRefusal
         roots-good q =
             let e : length tr ≡ length er + length ps + length qs = sym q ∙ ap (λ (z : ℕ). length er + length ps + z) (eqb-true bad1 (length qs) d) in
-            rw (le-ltb _ _ a, le-ltb _ _ (all-stand tr (readRoot reads t) (length er) ps b), le-ltb _ _ (all-stand tr (callRoot calls cargs t) (length er + length ps) qs d), eq-eqb _ _ e)
+            rw (le-ltb _ _ a, le-ltb _ _ (all-stand tr (readRoot (E .reads) (T .rows)) (length er) ps b), le-ltb _ _ (all-stand tr (callRoot (E .calls) (E .cargs) (T .rows)) (length er + length ps) qs d), eq-eqb _ _ e)

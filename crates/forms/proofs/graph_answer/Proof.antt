@@ -1,13 +1,13 @@
--- `stages::graph_answer` meets its contract. Assumes nothing.
+-- `forms::graph_answer` meets its contract. Assumes nothing.
 use mathlib.Core.Path.{sym}
 use mathlib.Core.List.{[]}
 use native.Mathlib.Omega.{arith}
 use Rattle.rows.specs.declared.Graph.the-variants.{Source, Target}
 use Rattle.lowering.specs.Lowering.{sourceGraph, targetGraph}
-use Rattle.stages.proofs.Form.{bad-row-le, bad-source, bad-target, bit-source, bit-target, ill-source, ill-target, graphs-good}
+use Rattle.forms.proofs.Form.{bad-row-le, bad-source, bad-target, bit-source, bit-target, ill-source, ill-target, graphs-good}
 use borrow.Author.Needs.{needs}
-use Rattle.stages.proofs.graph_answer.Statement.{statement}
-use Rattle.stages.proofs.graph_answer.Tie as tie
+use Rattle.forms.proofs.graph_answer.Statement.{statement}
+use Rattle.forms.proofs.graph_answer.Tie as tie
 
 bad-row-requires : tie.Need-bad-row-requires
 bad-row-requires c κs = search needs

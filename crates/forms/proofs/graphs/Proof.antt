@@ -1,4 +1,4 @@
--- `stages::graphs` meets its contract. Assumes nothing.
+-- `forms::graphs` meets its contract. Assumes nothing.
 use Prim.Native.Nat.{ℕ, _<_}
 use mathlib.Core.Path.{_≡_, _∙_}
 use mathlib.Core.Bool.{true}
@@ -12,10 +12,10 @@ use Rattle.wf.proofs.Stop.{stop-good}
 use Rattle.wf.specs.Pass.{stopRow}
 use Rattle.lowering.specs.Lowering.{SourceGraph, TargetGraph, sourceGraph, targetGraph}
 use Rattle.lowering.specs.Check.{firstRefusal, graphAnswers}
-use Rattle.stages.proofs.Form.{stop-le, graphs-stop, source-settles, no-stop-source, no-stop-target, widths-all}
+use Rattle.forms.proofs.Form.{stop-le, graphs-stop, source-settles, no-stop-source, no-stop-target, widths-all}
 use borrow.Author.Needs.{needs}
-use Rattle.stages.proofs.graphs.Statement.{statement}
-use Rattle.stages.proofs.graphs.Tie as tie
+use Rattle.forms.proofs.graphs.Statement.{statement}
+use Rattle.forms.proofs.graphs.Tie as tie
 
 graph-wf-requires : tie.Need-graph-wf-requires
 graph-wf-requires c κs = search needs

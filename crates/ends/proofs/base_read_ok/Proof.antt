@@ -1,4 +1,4 @@
--- `chains::base_read_ok` meets its contract. Assumes nothing.
+-- `ends::base_read_ok` meets its contract. Assumes nothing.
 use native.Mathlib.Omega.{arith}
 use lib.ListN.{length, getD}
 use borrow.Author.Tests.{lt-ltb, le-ltb, eq-eqb, ne-eqb}
@@ -7,8 +7,8 @@ use Rattle.lists.proofs.Tests.{within-le}
 use Rattle.lists.specs.Tests.{all}
 use Rattle.lowering.specs.Matching.{endGood}
 use borrow.Author.Needs.{needs}
-use Rattle.chains.proofs.base_read_ok.Statement.{statement}
-use Rattle.chains.proofs.base_read_ok.Tie as tie
+use Rattle.ends.proofs.base_read_ok.Statement.{statement}
+use Rattle.ends.proofs.base_read_ok.Tie as tie
 
 row-count-requires : tie.Need-row-count-requires
 row-count-requires c κs = search needs
