@@ -8,7 +8,7 @@ use lib.Dec.{ltb}
 use lib.ListN.{length, replicate, take, length-replicate}
 use lib.Seq.{take-at}
 use Rattle.answers.specs.declared.Answer.{Answer}
-use Rattle.answers.specs.declared.Answer.the-variants.{Accepted, WorkShort}
+use Rattle.answers.specs.declared.Answer.the-variants.{WorkShort}
 use Rattle.answers.specs.Answer.{isAccepted, keeps, lent, andThen}
 use Rattle.lists.proofs.Build.{build-length}
 use Rattle.rows.specs.declared.Graph.{Graph}

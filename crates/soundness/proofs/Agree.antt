@@ -25,7 +25,7 @@ use Rattle.wf.specs.Promise.{Below, RowFormed}
 use Rattle.value.specs.Val.{Val, val, wid, nat}
 use Rattle.value.specs.Operate.{operate, constNumber}
 use Rattle.value.specs.Graph.{nodeValue, Assigns}
-use Rattle.meaning.specs.Meaning.{Interpretation, stored, sourceNode, sourceValue}
+use Rattle.meaning.specs.Meaning.{Interpretation, stored, sourceNode}
 use Rattle.lowering.specs.declared.Walk.{Walk}
 use Rattle.lowering.specs.declared.Walk.the-variants.{Met, Lost}
 use Rattle.lowering.specs.Images.{fieldAt, bothConst, sameConst}
@@ -33,6 +33,7 @@ use Rattle.lowering.specs.Matching.{isLevel, walk}
 use Rattle.lowering.specs.Lowering.{Lowering, sourceRows, targetRows}
 use Rattle.lowering.specs.Check.{widthsOfSource}
 use Rattle.lowering.proofs.Images.{const-row, both-const}
+use Rattle.soundness.specs.Sound.{valueOfSource}
 use Rattle.soundness.proofs.Facts.{S, T, m, Mapped, Formed, SameCore, ReadOf, CallOf, Ends, walkOf, Found, Matched}
 use Rattle.soundness.proofs.Images.{eq-row, ite-row, same-const}
 use Rattle.meaning.proofs.Values.{Pairs, pairs-formed, source-value, source-width}
@@ -58,7 +59,7 @@ unequal-numbers b c r q cb cc′ k n w e =
 module _ (L : Lowering) (F : Formed L) (M : Matched L) (I : Interpretation) (A : ℕ → ℕ) (assigns : Assigns A (L .target .rows)) where
   -- the value and the width of a source row
   abbrev pub sv : ℕ → Val
-  sv i = sourceValue (L .source .rows) (L .source .bits) (L .source .side) I i
+  sv i = valueOfSource L I i
 
   abbrev pub sw : ℕ → ℕ
   sw i = getD (widthsOfSource L) i 0

@@ -1,5 +1,5 @@
 -- What acceptance says of every mapped row, entry and root, without classes: all that the two directions of the theorem use. Assumes nothing.
-use Prim.Native.Nat.{ℕ, _+_, _<_}
+use Prim.Native.Nat.{ℕ, _<_}
 use mathlib.Core.Path.{_≡_}
 use mathlib.Core.Bool.{true, false}
 use mathlib.Core.Logic.{_⊎_}

@@ -18,13 +18,14 @@ use Rattle.rows.specs.Tags.{tEq, tNot, tBoolAnd, tBoolOr}
 use Rattle.wf.specs.Promise.{RowFormed}
 use Rattle.value.specs.Val.{Val, val, wid, nat}
 use Rattle.value.specs.Operate.{operate}
-use Rattle.value.specs.Graph.{nodeValue, value, Assigns}
+use Rattle.value.specs.Graph.{nodeValue, Assigns}
 use Rattle.value.proofs.Formed.{value-formed}
 use Rattle.lowering.specs.Images.{fieldAt}
 use Rattle.lowering.specs.Matching.{isEq}
 use Rattle.lowering.specs.Roots.{allEqual, congruent}
 use Rattle.lowering.specs.Lowering.{Lowering, targetRows}
 use Rattle.lowering.specs.Check.{widthsOfTarget}
+use Rattle.soundness.specs.Sound.{valueOfTarget}
 use Rattle.soundness.proofs.Facts.{T, Formed}
 use Rattle.soundness.proofs.Images.{eq-row, and-row, or-row, not-row}
 use Rattle.meaning.proofs.Values.{target-value}
@@ -103,7 +104,7 @@ val-ext (val w n) (val z k) p q = rw (p, q)
 module _ (L : Lowering) (F : Formed L) (A : ℕ → ℕ) (assigns : Assigns A (L .target .rows)) where
   -- the value and the width of a target row
   abbrev pub tv : ℕ → Val
-  tv r = value (L .target .bits) A (L .target .rows) r
+  tv r = valueOfTarget L A r
 
   abbrev pub tw : ℕ → ℕ
   tw r = getD (widthsOfTarget L) r 0

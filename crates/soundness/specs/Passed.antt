@@ -16,8 +16,10 @@ use Rattle.lowering.specs.Check.{callRoots, rootsEnd}
 -- when it comes to row n: both tables (5, 6), and the rows before it (4, 7 to 11)
 pub record Reached (L : Lowering) (n : ℕ) : Type 0 where
   pub inside : n ≤ sourceRows L
-  pub reads : (k : ℕ) → k < readCount (L .reads) → readGood (L .reads) (L .target .rows) (widthsOfTarget L) (readClasses (L .reads) (noClasses L) k) k ≡ true
-  pub calls : (k : ℕ) → k < callCount (L .calls) → callGood (L .calls) (L .cargs) (L .target .rows) (callClasses (L .calls) (classesOfReads L) k) k ≡ true
+  pub reads : (k : ℕ) → k < readCount (L .reads)
+      → readGood (L .reads) (L .target .rows) (widthsOfTarget L) (readClasses (L .reads) (noClasses L) k) k ≡ true
+  pub calls : (k : ℕ) → k < callCount (L .calls)
+      → callGood (L .calls) (L .cargs) (L .target .rows) (callClasses (L .calls) (classesOfReads L) k) k ≡ true
   pub rows : (i : ℕ) → i < n → isAccepted (answerOf L i) ≡ true
 
 -- when it accepts: encoding (16, 17), form (1, 2), map (3), tables and rows, no dead entry (14), roots (12, 13)

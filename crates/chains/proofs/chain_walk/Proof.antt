@@ -1,4 +1,4 @@
--- `chains::chain_walk` meets its contract: the walk of what is left gives the whole walk. Assumes nothing.
+-- Invariant: after l of k pairs, the walk from the current row along the rest is the whole walk. Assumes nothing.
 use Prim.Native.Nat.{_≤_, _+_, _*_, _-_}
 use mathlib.Core.Path.{_≡_, _∙_, sym, ap}
 use mathlib.Core.Logic.{⊎-elim}

@@ -1,4 +1,4 @@
--- `checker::check` meets its contract. Assumes nothing.
+-- Counts, forms, lowering in 01's order: each return is the law of its stage; the lists that are left follow from the answer. Assumes nothing.
 use mathlib.Core.Path.{_≡_, refl, sym, _∙_}
 use mathlib.Core.Bool.{true}
 use mathlib.Core.List.{[]}
@@ -15,7 +15,7 @@ use Rattle.checker.proofs.check.Tie as tie
 
 -- the start, from the first place past what is known of the lists
 abbrev start : tie.After-count-answer → tie.Start
-start c = c .before .before .before .before .before .before .before .before .before .before .before .before .before .before .before .before
+start c = let lists = c .before .before .before .before .before .before .before .before in lists .before .before .before .before .before .before .before .before
 
 abbrev input : tie.Start → Lowering
 input c =

@@ -1,4 +1,4 @@
--- `ends::base_read` meets its contract. Assumes nothing.
+-- The test decides; a read variable that passes is a row, so its class can be written. Assumes nothing.
 use mathlib.Core.Path.{refl, sym}
 use native.Mathlib.Omega.{arith}
 use Rattle.lists.proofs.Choice.{tested-no, tested-yes}

@@ -1,4 +1,4 @@
--- `ends::read_class` meets its contract. Assumes nothing.
+-- The two classes of a read variable, one test each. Assumes nothing.
 use borrow.Author.Tests.{eq-eqb, ne-eqb}
 use Rattle.ends.proofs.read_class.Statement.{statement}
 use Rattle.ends.proofs.read_class.Tie as tie

@@ -1,4 +1,4 @@
--- `ends::walk_end` meets its contract. Assumes nothing.
+-- By where the walk stopped: each arm is the definition at that stop. Assumes nothing.
 use mathlib.Core.Path.{_∙_, refl, sym}
 use lib.Dec.{eqb}
 use Rattle.lowering.specs.Matching.{endGood}

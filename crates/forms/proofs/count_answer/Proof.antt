@@ -1,4 +1,4 @@
--- `forms::count_answer` meets its contract. Assumes nothing.
+-- The six tests in their order; a law for each refusal. Assumes nothing.
 use Rattle.forms.proofs.Counts.{count-source, count-target, short-1, short-2, short-3, short-4, count-good}
 use Rattle.forms.proofs.count_answer.Statement.{statement}
 use Rattle.forms.proofs.count_answer.Tie as tie

@@ -1,4 +1,4 @@
--- `forms::graph_answer` meets its contract. Assumes nothing.
+-- The six tests in their order; a law for each refusal. No row before a stop is badly encoded. Assumes nothing.
 use mathlib.Core.Path.{sym}
 use mathlib.Core.List.{[]}
 use native.Mathlib.Omega.{arith}

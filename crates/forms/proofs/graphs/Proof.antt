@@ -1,4 +1,4 @@
--- `forms::graphs` meets its contract. Assumes nothing.
+-- The row where a pass stops gives the same answer as the ill-formed row; a stop in the source settles the answer. Assumes nothing.
 use Prim.Native.Nat.{ℕ, _<_}
 use mathlib.Core.Path.{_≡_, _∙_}
 use mathlib.Core.Bool.{true}

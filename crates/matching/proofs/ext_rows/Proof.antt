@@ -1,4 +1,4 @@
--- `matching::ext_rows` meets its contract: the loop is the search for the first row that is refused, over the classes so far. Assumes nothing.
+-- Invariant: no row before i is refused, and the classes are those before row i; the loop is the search for the first refusal. Assumes nothing.
 use Prim.Native.Nat.{ℕ, _≤_, _<_, _-_}
 use mathlib.Core.Path.{_≡_, refl, _∙_}
 use mathlib.Core.Bool.{false}
@@ -22,7 +22,7 @@ abbrev μ-loop : tie.MeasureT-loop
 
 -- the start, from the first place past what is known of the lists
 abbrev start : tie.After-row-count Inv-loop μ-loop → tie.Start Inv-loop μ-loop
-start c = c .before .before .before .before .before .before .before .before .before .before .before .before
+start c = let lists = c .before .before .before .before .before .before .before .before in lists .before .before .before .before
 
 abbrev asked : tie.Start Inv-loop μ-loop → Binding
 asked c =

@@ -1,4 +1,4 @@
--- `matching::row_corr`: the tag word says which rule the row has, and each rule's function answers as that rule does. Assumes nothing.
+-- By the tag word, which says the row's kind: the kind's function answers as the definition does at that kind. Assumes nothing.
 use mathlib.Core.Path.{refl, sym}
 use Rattle.answers.specs.declared.Answer.the-variants.{VarClass, ConstMismatch, NodeMismatch, ChainMismatch, CallMismatch}
 use Rattle.lists.proofs.Choice.{cond-same}
@@ -12,7 +12,7 @@ use Rattle.matching.proofs.row_corr.Tie as tie
 
 -- the start, from the first place past what is known of the lists
 abbrev start : tie.After-row → tie.Start
-start c = c .before .before .before .before .before .before .before .before .before .before .before .before
+start c = let lists = c .before .before .before .before .before .before .before .before in lists .before .before .before .before
 
 abbrev asked : tie.Start → Binding
 asked c =

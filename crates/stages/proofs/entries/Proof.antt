@@ -1,4 +1,4 @@
--- `stages::entries` meets its contract. Assumes nothing.
+-- Both tables in order; a law for each refusal. A table that passes has marked each of its entries. Assumes nothing.
 use Prim.Native.Nat.{_≤_}
 use mathlib.Core.Path.{sym, ap, _∙_}
 use Rattle.answers.specs.declared.Answer.the-variants.{ReadTable, CallTable}

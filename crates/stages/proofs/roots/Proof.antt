@@ -1,4 +1,4 @@
--- `stages::roots` meets its contract. Assumes nothing.
+-- The leading roots, those of reads, those of calls, then the end; a law for each refusal. Assumes nothing.
 use Prim.Native.Nat.{ℕ, _+_}
 use mathlib.Core.Path.{_≡_, sym, ap, _∙_}
 use borrow.Author.Tests.{eqb-true, not-true, not-false}
