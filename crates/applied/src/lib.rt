@@ -4,8 +4,7 @@ ghost use mathlib.Core.Bool.{cond};
 ghost use Prim.Native.Nat.{_+_, _<_, _≤_};
 ghost use lib.ListN.{length, getD, set};
 ghost use Rattle.lists.specs.Tests.{agree};
-ghost use Rattle.lowering.specs.Images.{mapAt};
-ghost use Rattle.lowering.specs.Matching.{callMatches};
+ghost use Rattle.lowering.specs.Matching.{noted, mappedArg, callMatches};
 ghost use Rattle.rows.specs.declared.Graph.{Graph};
 ghost use Rattle.rows.specs.Row.{rowCount};
 ghost use Rattle.rows.specs.Tags.{either};
@@ -26,7 +25,7 @@ fn call_class(c: u64) -> bool
 fn args_match(eside: &[u64], map: &[u64], cargs: &[u64], s: usize, cs: usize, k: usize) -> bool
     requires { ⌜ ArgsWithin (now eside) s k ⌝ }
     requires { ⌜ cs + k ≤ length (now cargs) ⌝ }
-    ensures test { λ r. ⌜ r ≡ agree (λ l. mapAt (now (map .entry)) (getD (now (eside .entry)) (s + l) 0))
+    ensures test { λ r. ⌜ r ≡ agree (mappedArg (now (map .entry)) (now (eside .entry)) s)
         (λ l. getD (now (cargs .entry)) (cs + l) 0) k ⌝ }
 {
     let mut l = 0;
@@ -54,8 +53,9 @@ fn call_ok(
     requires { ⌜ (r < rowCount Graph.Target (now target)) × (length (now ent) ≡ rowCount Graph.Target (now target))
         × (length (now cls) ≡ rowCount Graph.Target (now target)) ⌝ }
     requires { ⌜ ArgsWithin (now eside) (getD e 3 0) (getD e 4 0) ⌝ }
-    ensures test { λ t. ⌜ t ≡ callMatches (now (eside .entry)) (now (map .entry)) (now (calls .entry)) (now (cargs .entry)) (now (target .entry))
-        (now (ent .entry)) (now (cls .entry)) (getD e 1 0) (getD e 2 0) (getD e 3 0) (getD e 4 0) r ⌝ }
+    ensures test { λ t. ⌜ t ≡ callMatches (now (calls .entry)) (now (cargs .entry)) (now (target .entry))
+        (noted (now (cls .entry)) (now (ent .entry))) (getD e 1 0) (getD e 2 0) (getD e 4 0)
+        (mappedArg (now (map .entry)) (now (eside .entry)) (getD e 3 0)) r ⌝ }
 {
     if !images::row_is_var(rows::row(Graph::Target, target, r), e[2]) {
         return false;
@@ -97,8 +97,9 @@ pub fn call_corr(
     requires { ⌜ (r < rowCount Graph.Target (now target)) × (length (now ent) ≡ rowCount Graph.Target (now target))
         × (length (now cls) ≡ rowCount Graph.Target (now target)) ⌝ }
     requires { ⌜ ArgsWithin (now eside) (getD e 3 0) (getD e 4 0) ⌝ }
-    ensures test { λ t. ⌜ t ≡ callMatches (now (eside .entry)) (now (map .entry)) (now (calls .entry)) (now (cargs .entry)) (now (target .entry))
-        (now (ent .entry)) (now (cls .entry)) (getD e 1 0) (getD e 2 0) (getD e 3 0) (getD e 4 0) r ⌝ }
+    ensures test { λ t. ⌜ t ≡ callMatches (now (calls .entry)) (now (cargs .entry)) (now (target .entry))
+        (noted (now (cls .entry)) (now (ent .entry))) (getD e 1 0) (getD e 2 0) (getD e 4 0)
+        (mappedArg (now (map .entry)) (now (eside .entry)) (getD e 3 0)) r ⌝ }
     ensures list { λ t. ⌜ now (cls .exit) ≡ cond t (set (now (cls .entry)) r 5) (now (cls .entry)) ⌝ }
 {
     if !call_ok(eside, map, calls, cargs, target, ent, cls, e, r) {

@@ -9,6 +9,7 @@ use Rattle.rows.specs.Row.{rowAt}
 use Rattle.lowering.specs.declared.Walk.{Walk}
 use Rattle.lowering.specs.declared.Walk.the-variants.{RanOut, Met, Lost}
 use Rattle.lowering.specs.Images.{mapAt, fieldAt, bothConst, sameConst}
+use Rattle.lowering.specs.Lowering.{SourceGraph}
 use Rattle.lowering.specs.Matching.{isLevel}
 
 -- a pair that is no pair of constants: the walk goes on at the Ite's rest, if row r is that Ite
@@ -16,12 +17,12 @@ abbrev pub levelStep : List ℕ → ℕ → ℕ → ℕ → ℕ → Walk
 levelStep target a b v r = cond (isLevel target a b v r) (RanOut (fieldAt target r 3)) Lost
 
 -- the pair at s of the side list from row r on, where the select index is row q with image b: a walk of one pair
-abbrev pub pairStep : List ℕ → List ℕ → List ℕ → List ℕ → List ℕ → List ℕ → ℕ → ℕ → ℕ → Walk
-pairStep source ebits eside map target q b s r =
-    let p = getD eside s 0 in
-    let v = getD eside (s + 1) 0 in
-    cond (bothConst (rowAt Source source p) q)
-    (cond (sameConst ebits (rowAt Source source p) ebits q) (Met r v) (RanOut r))
+abbrev pub pairStep : SourceGraph → List ℕ → List ℕ → List ℕ → ℕ → ℕ → ℕ → Walk
+pairStep S map target q b s r =
+    let p = getD (S .side) s 0 in
+    let v = getD (S .side) (s + 1) 0 in
+    cond (bothConst (rowAt Source (S .rows) p) q)
+    (cond (sameConst (S .bits) (rowAt Source (S .rows) p) (S .bits) q) (Met r v) (RanOut r))
     (levelStep target (mapAt map p) b (mapAt map v) r)
 
 -- the walk after a step: it goes on, or the step has ended it

@@ -1,28 +1,18 @@
-// The walk of a Select along its stores, and the read variable where it ends.
+// The walk of a Select along its stores.
 ghost use mathlib.Core.Path.{_≡_};
 ghost use mathlib.Core.Bool.{cond};
 ghost use Prim.Native.Nat.{_+_, _<_};
-ghost use lib.ListN.{length, getD, set};
+ghost use lib.ListN.{length, getD};
 ghost use Rattle.images.specs.Bits.{BitsWithin, ConstsWithin};
 ghost use Rattle.lowering.specs.declared.Walk.{Walk};
-ghost use Rattle.lowering.specs.Matching.{walk, endGood, endClasses};
+ghost use Rattle.lowering.specs.Lowering.{sourceGraph};
+ghost use Rattle.lowering.specs.Matching.{walk, noted, endGood, endClasses};
 ghost use Rattle.rows.specs.declared.Graph.{Graph};
 ghost use Rattle.rows.specs.Row.{rowCount};
-ghost use Rattle.rows.specs.Tags.{either};
 ghost use Rattle.chains.specs.Ready.{PairsWithin};
 ghost use Rattle.chains.specs.Step.{levelStep, pairStep};
 use lowering::Walk;
 use rows::Graph;
-
-// The classes of a read variable.
-fn read_class(c: u64) -> bool
-    ensures test { λ r. ⌜ r ≡ either c 2 4 ⌝ }
-{
-    if c == 2 {
-        return true;
-    }
-    c == 4
-}
 
 // Target row r is Ite(Eq(a, b), v, rest): the walk goes on at the rest.
 fn level(target: &[u64], a: u64, b: u64, v: u64, r: u64) -> Walk
@@ -58,8 +48,8 @@ fn pair_step(
 ) -> Walk
     requires { ⌜ (s + 1 < length (now eside)) × (getD (now eside) s 0 < rowCount Graph.Source (now source)) ⌝ }
     requires { ⌜ ConstsWithin Graph.Source (now ebits) (now source) × BitsWithin (now ebits) q ⌝ }
-    ensures step { λ w. ⌜ w ≡ pairStep (now (source .entry)) (now (ebits .entry)) (now (eside .entry)) (now (map .entry))
-        (now (target .entry)) q b s r ⌝ }
+    ensures step { λ w. ⌜ w ≡ pairStep (sourceGraph (now (source .entry)) (now (ebits .entry)) (now (eside .entry)))
+        (now (map .entry)) (now (target .entry)) q b s r ⌝ }
 {
     let p = eside[s];
     let v = eside[s + 1];
@@ -88,7 +78,7 @@ fn chain_walk(
     requires { ⌜ j < rowCount Graph.Source (now source) ⌝ }
     requires { ⌜ PairsWithin (now source) (now eside) s k ⌝ }
     requires { ⌜ ConstsWithin Graph.Source (now ebits) (now source) ⌝ }
-    ensures stop { λ w. ⌜ w ≡ walk (now (source .entry)) (now (ebits .entry)) (now (eside .entry)) (now (map .entry))
+    ensures stop { λ w. ⌜ w ≡ walk (sourceGraph (now (source .entry)) (now (ebits .entry)) (now (eside .entry))) (now (map .entry))
         (now (target .entry)) j k s r ⌝ }
 {
     if k == 0 {
@@ -113,85 +103,6 @@ fn chain_walk(
     stop
 }
 
-// Target row r is the read variable of array a at the image of row j.
-fn base_read_ok(
-    map: &[u64],
-    reads: &[u64],
-    target: &[u64],
-    ent: &[u64],
-    cls: &[u64],
-    a: u64,
-    j: u64,
-    r: u64,
-) -> bool
-    requires { ⌜ (length (now ent) ≡ rowCount Graph.Target (now target)) × (length (now cls) ≡ rowCount Graph.Target (now target)) ⌝ }
-    ensures test { λ t. ⌜ t ≡ endGood (now (map .entry)) (now (reads .entry)) (now (target .entry)) (now (ent .entry)) (now (cls .entry)) a j
-        (Walk.RanOut r) ⌝ }
-{
-    if rows::row_count(Graph::Target, target) as u64 <= r {
-        return false;
-    }
-    let i = r as usize;
-    if !read_class(cls[i]) {
-        return false;
-    }
-    let o = ent[i];
-    if !lists::within(reads.len() as u64, o, 3) {
-        return false;
-    }
-    let at = o as usize;
-    if reads[at + 1] != a {
-        return false;
-    }
-    reads[at + 2] == images::map_at(map, j)
-}
-
-// The read variable that a walk reaches becomes 4.
-fn base_read(
-    map: &[u64],
-    reads: &[u64],
-    target: &[u64],
-    ent: &[u64],
-    cls: &mut [u64],
-    a: u64,
-    j: u64,
-    r: u64,
-) -> bool
-    requires { ⌜ (length (now ent) ≡ rowCount Graph.Target (now target)) × (length (now cls) ≡ rowCount Graph.Target (now target)) ⌝ }
-    ensures test { λ t. ⌜ t ≡ endGood (now (map .entry)) (now (reads .entry)) (now (target .entry)) (now (ent .entry)) (now (cls .entry)) a j
-        (Walk.RanOut r) ⌝ }
-    ensures list { λ t. ⌜ now (cls .exit) ≡ cond t (set (now (cls .entry)) r 4) (now (cls .entry)) ⌝ }
-{
-    if !base_read_ok(map, reads, target, ent, cls, a, j, r) {
-        return false;
-    }
-    let i = r as usize;
-    cls[i] = 4;
-    true
-}
-
-// Where the walk for array a and index row j ends.
-fn walk_end(
-    map: &[u64],
-    reads: &[u64],
-    target: &[u64],
-    ent: &[u64],
-    cls: &mut [u64],
-    a: u64,
-    j: u64,
-    w: Walk,
-) -> bool
-    requires { ⌜ (length (now ent) ≡ rowCount Graph.Target (now target)) × (length (now cls) ≡ rowCount Graph.Target (now target)) ⌝ }
-    ensures test { λ t. ⌜ t ≡ endGood (now (map .entry)) (now (reads .entry)) (now (target .entry)) (now (ent .entry)) (now (cls .entry)) a j w ⌝ }
-    ensures list { λ t. ⌜ now (cls .exit) ≡ cond t (endClasses (now (cls .entry)) w) (now (cls .entry)) ⌝ }
-{
-    match w {
-        Walk::RanOut(r) => base_read(map, reads, target, ent, cls, a, j, r),
-        Walk::Met(r, v) => r == images::map_at(map, v),
-        Walk::Lost => false,
-    }
-}
-
 // A Select row against its image, target row r.
 pub fn select_corr(
     source: &[u64],
@@ -208,12 +119,12 @@ pub fn select_corr(
     requires { ⌜ (getD e 2 0 < rowCount Graph.Source (now source)) × PairsWithin (now source) (now eside) (getD e 3 0) (getD e 4 0)
         × ConstsWithin Graph.Source (now ebits) (now source) ⌝ }
     requires { ⌜ (length (now ent) ≡ rowCount Graph.Target (now target)) × (length (now cls) ≡ rowCount Graph.Target (now target)) ⌝ }
-    ensures test { λ t. ⌜ t ≡ endGood (now (map .entry)) (now (reads .entry)) (now (target .entry)) (now (ent .entry)) (now (cls .entry)) (getD e 1 0)
-        (getD e 2 0) (walk (now (source .entry)) (now (ebits .entry)) (now (eside .entry)) (now (map .entry)) (now (target .entry)) (getD e 2 0)
-        (getD e 4 0) (getD e 3 0) r) ⌝ }
+    ensures test { λ t. ⌜ t ≡ endGood (now (map .entry)) (now (reads .entry)) (now (target .entry)) (noted (now (cls .entry)) (now (ent .entry)))
+        (getD e 1 0) (getD e 2 0) (walk (sourceGraph (now (source .entry)) (now (ebits .entry)) (now (eside .entry)))
+        (now (map .entry)) (now (target .entry)) (getD e 2 0) (getD e 4 0) (getD e 3 0) r) ⌝ }
     ensures list { λ t. ⌜ now (cls .exit) ≡ cond t (endClasses (now (cls .entry))
-        (walk (now (source .entry)) (now (ebits .entry)) (now (eside .entry)) (now (map .entry)) (now (target .entry)) (getD e 2 0) (getD e 4 0)
-        (getD e 3 0) r)) (now (cls .entry)) ⌝ }
+        (walk (sourceGraph (now (source .entry)) (now (ebits .entry)) (now (eside .entry))) (now (map .entry)) (now (target .entry)) (getD e 2 0)
+        (getD e 4 0) (getD e 3 0) r)) (now (cls .entry)) ⌝ }
 {
     let w = chain_walk(
         source,
@@ -226,5 +137,5 @@ pub fn select_corr(
         e[3],
         r as u64,
     );
-    walk_end(map, reads, target, ent, cls, e[1], e[2], w)
+    ends::walk_end(map, reads, target, ent, cls, e[1], e[2], w)
 }

@@ -10,16 +10,15 @@ use Rattle.answers.specs.declared.Answer.the-variants.{Accepted, RowCount, Work
 use Rattle.answers.specs.Answer.{isAccepted, keeps}
 use Rattle.lists.proofs.Choice.{no-way}
 use Rattle.rows.specs.declared.Graph.the-variants.{Source, Target}
-use Rattle.rows.specs.declared.Node.{Node}
-use Rattle.rows.specs.declared.Node.the-variants.{Var, Const, Un, Bin, Extract, Extend, Ite, Select, Call, Unknown}
 use Rattle.rows.specs.Row.{rowCount, rowAt, ragged}
 use Rattle.rows.specs.Node.{nodeOf}
 use Rattle.encoding.specs.Encoding.{badRow, badBit}
 use Rattle.lowering.specs.Images.{MAX, mapAt, sameConst}
 use Rattle.lowering.specs.Tables.{readCount, callCount, badRead, badCall}
 use Rattle.lowering.specs.Roots.{Pair, badLead, badCong, readPairs, callPairs, readRoot, callRoot}
-use Rattle.lowering.specs.Matching.{selectWalk, endGood, callMatches, varMatches, nodeMatches, matched, nodeAnswer, rowAnswer}
-use Rattle.lowering.specs.Lowering.{Lowering, Binding, bindingOf, sourceRows, targetRows}
+use Rattle.lowering.specs.Matching.{Noted, noted, mappedArg, selectWalk, endGood, callMatches, varMatches, nodeMatches, matched}
+use Rattle.lowering.specs.Matching.{Kind, var, const, core, select, call, unknown, kindOf, kindAnswer, nodeAnswer, rowAnswer}
+use Rattle.lowering.specs.Lowering.{SourceGraph, TargetGraph, Lowering, Binding, bindingOf, entriesOf, sourceRows, targetRows}
 use Rattle.lowering.specs.Check.{widthsOfTarget, noClasses, classesOfReads, deadVariable, answerOf, mismatch, offsets, classes, refuse, firstRefusal, countAnswers, graphAnswers, rootAnswers, matchAnswers}
 
 -- a test's refusal, where it is none of the two
@@ -46,9 +45,9 @@ keeps-first (a ∷ more) z = go (isAccepted a) (keeps-first more (z .1))
     go false r = z .0
 
 -- the counts' refusals are
-pub keeps-count : (s t : List ℕ) (w0 w1 c e : ℕ) → isAccepted (firstRefusal (countAnswers s t w0 w1 c e)) ≡ false → keeps (firstRefusal (countAnswers s t w0 w1 c e)) ≡ true
+pub keeps-count : (S : SourceGraph) (T : TargetGraph) (w0 w1 c e : ℕ) → isAccepted (firstRefusal (countAnswers S T w0 w1 c e)) ≡ false → keeps (firstRefusal (countAnswers S T w0 w1 c e)) ≡ true
 unfolding firstRefusal
-keeps-count s t w0 w1 c e n = go (ragged Source s) (ragged Target t) (ltb w0 (rowCount Source s)) (ltb w1 (rowCount Target t)) (ltb c (rowCount Target t)) (ltb e (rowCount Target t)) n
+keeps-count S T w0 w1 c e n = go (ragged Source (S .rows)) (ragged Target (T .rows)) (ltb w0 (rowCount Source (S .rows))) (ltb w1 (rowCount Target (T .rows))) (ltb c (rowCount Target (T .rows))) (ltb e (rowCount Target (T .rows))) n
   where
     list : Bool → Bool → Bool → Bool → Bool → Bool → List Answer
     list b0 b1 b2 b3 b4 b5 =
@@ -64,76 +63,73 @@ keeps-count s t w0 w1 c e n = go (ragged Source s) (ragged Target t) (ltb w0 (ro
     go false false false false false false n = no-way n
 
 -- the others are not
-pub keeps-graphs : (s eb t tb : List ℕ) (x y : ℕ) → keeps (firstRefusal (graphAnswers s eb t tb x y)) ≡ false
-keeps-graphs s eb t tb x y = keeps-first (graphAnswers s eb t tb x y) (row0, (row1, (bit0, (bit1, (ill0, (ill1, tt))))))
+pub keeps-graphs : (S : SourceGraph) (T : TargetGraph) (x y : ℕ) → keeps (firstRefusal (graphAnswers S T x y)) ≡ false
+keeps-graphs S T x y = keeps-first (graphAnswers S T x y) (row0, (row1, (bit0, (bit1, (ill0, (ill1, tt))))))
   where
-    row0 : keeps (refuse (ltb (badRow Source s) (rowCount Source s)) (BadRow (badRow Source s) 1)) ≡ false
-    row0 = keeps-refuse (ltb (badRow Source s) (rowCount Source s)) (BadRow (badRow Source s) 1) refl
+    row0 : keeps (refuse (ltb (badRow Source (S .rows)) (rowCount Source (S .rows))) (BadRow (badRow Source (S .rows)) 1)) ≡ false
+    row0 = keeps-refuse (ltb (badRow Source (S .rows)) (rowCount Source (S .rows))) (BadRow (badRow Source (S .rows)) 1) refl
 
-    row1 : keeps (refuse (ltb (badRow Target t) (rowCount Target t)) (BadRow (badRow Target t) 2)) ≡ false
-    row1 = keeps-refuse (ltb (badRow Target t) (rowCount Target t)) (BadRow (badRow Target t) 2) refl
+    row1 : keeps (refuse (ltb (badRow Target (T .rows)) (rowCount Target (T .rows))) (BadRow (badRow Target (T .rows)) 2)) ≡ false
+    row1 = keeps-refuse (ltb (badRow Target (T .rows)) (rowCount Target (T .rows))) (BadRow (badRow Target (T .rows)) 2) refl
 
-    bit0 : keeps (refuse (ltb (badBit eb) (length eb)) (BadBit (badBit eb) 1)) ≡ false
-    bit0 = keeps-refuse (ltb (badBit eb) (length eb)) (BadBit (badBit eb) 1) refl
+    bit0 : keeps (refuse (ltb (badBit (S .bits)) (length (S .bits))) (BadBit (badBit (S .bits)) 1)) ≡ false
+    bit0 = keeps-refuse (ltb (badBit (S .bits)) (length (S .bits))) (BadBit (badBit (S .bits)) 1) refl
 
-    bit1 : keeps (refuse (ltb (badBit tb) (length tb)) (BadBit (badBit tb) 2)) ≡ false
-    bit1 = keeps-refuse (ltb (badBit tb) (length tb)) (BadBit (badBit tb) 2) refl
+    bit1 : keeps (refuse (ltb (badBit (T .bits)) (length (T .bits))) (BadBit (badBit (T .bits)) 2)) ≡ false
+    bit1 = keeps-refuse (ltb (badBit (T .bits)) (length (T .bits))) (BadBit (badBit (T .bits)) 2) refl
 
-    ill0 : keeps (refuse (ltb x (rowCount Source s)) (Ext x)) ≡ false
-    ill0 = keeps-refuse (ltb x (rowCount Source s)) (Ext x) refl
+    ill0 : keeps (refuse (ltb x (rowCount Source (S .rows))) (Ext x)) ≡ false
+    ill0 = keeps-refuse (ltb x (rowCount Source (S .rows))) (Ext x) refl
 
-    ill1 : keeps (refuse (ltb y (rowCount Target t)) (Core y)) ≡ false
-    ill1 = keeps-refuse (ltb y (rowCount Target t)) (Core y) refl
+    ill1 : keeps (refuse (ltb y (rowCount Target (T .rows))) (Core y)) ≡ false
+    ill1 = keeps-refuse (ltb y (rowCount Target (T .rows))) (Core y) refl
 
-module _ (B : Binding) (ent cls : List ℕ) (i r : ℕ) where
-  keeps-node : (node : Node) → keeps (nodeAnswer B ent cls i r node) ≡ false
-  keeps-node (Var w) = keeps-matched (varMatches (B .target) cls w r) (VarClass i) refl
-  keeps-node (Const s w) = keeps-matched (sameConst (B .ebits) (rowAt Source (B .source) i) (B .tbits) (rowAt Target (B .target) r)) (ConstMismatch i) refl
-  keeps-node (Un t a) = keeps-matched (nodeMatches (B .map) (B .target) (Un t a) r) (NodeMismatch i) refl
-  keeps-node (Bin t a b) = keeps-matched (nodeMatches (B .map) (B .target) (Bin t a b) r) (NodeMismatch i) refl
-  keeps-node (Extract h l a) = keeps-matched (nodeMatches (B .map) (B .target) (Extract h l a) r) (NodeMismatch i) refl
-  keeps-node (Extend t a n) = keeps-matched (nodeMatches (B .map) (B .target) (Extend t a n) r) (NodeMismatch i) refl
-  keeps-node (Ite c t e) = keeps-matched (nodeMatches (B .map) (B .target) (Ite c t e) r) (NodeMismatch i) refl
-  keeps-node (Select a j s k) = keeps-matched (endGood (B .map) (B .reads) (B .target) ent cls a j (selectWalk B r j s k)) (ChainMismatch i) refl
-  keeps-node (Call f w s k) = keeps-matched (callMatches (B .eside) (B .map) (B .calls) (B .cargs) (B .target) ent cls f w s k r) (CallMismatch i) refl
-  keeps-node Unknown = refl
+keeps-kind : (B : Binding) (N : Noted) (i r : ℕ) (k : Kind) → keeps (kindAnswer B N i r k) ≡ false
+keeps-kind B N i r (var w) = keeps-matched (varMatches (B .target .rows) (N .classes) w r) (VarClass i) refl
+keeps-kind B N i r const =
+    keeps-matched (sameConst (B .source .bits) (rowAt Source (B .source .rows) i) (B .target .bits) (rowAt Target (B .target .rows) r)) (ConstMismatch i) refl
+keeps-kind B N i r (core node) = keeps-matched (nodeMatches (B .map) (B .target .rows) node r) (NodeMismatch i) refl
+keeps-kind B N i r (select a j s k) = keeps-matched (endGood (B .map) (B .reads) (B .target .rows) N a j (selectWalk B r j s k)) (ChainMismatch i) refl
+keeps-kind B N i r (call f w s k) =
+    keeps-matched (callMatches (B .calls) (B .cargs) (B .target .rows) N f w k (mappedArg (B .map) (B .source .side) s) r) (CallMismatch i) refl
+keeps-kind B N i r unknown = refl
 
 keeps-row : (L : Lowering) (i : ℕ) → keeps (answerOf L i) ≡ false
 unfolding rowAnswer
-keeps-row L i = go (eqb (mapAt (L .map) i) MAX) (ltb (mapAt (L .map) i) (rowCount Target (L .target)))
+keeps-row L i = go (eqb (mapAt (L .map) i) MAX) (ltb (mapAt (L .map) i) (rowCount Target (L .target .rows)))
   where
     node : Answer
-    node = nodeAnswer (bindingOf L) (offsets L) (classes L i) i (mapAt (L .map) i) (nodeOf (rowAt Source (L .source) i))
+    node = nodeAnswer (bindingOf L) (noted (classes L i) (offsets L)) i (mapAt (L .map) i) (nodeOf (rowAt Source (L .source .rows) i))
 
     go : (b c : Bool) → keeps (cond b Accepted (cond c node (MapOutOfRange i))) ≡ false
     go true c = refl
-    go false true = keeps-node (bindingOf L) (offsets L) (classes L i) i (mapAt (L .map) i) (nodeOf (rowAt Source (L .source) i))
+    go false true = keeps-kind (bindingOf L) (noted (classes L i) (offsets L)) i (mapAt (L .map) i) (kindOf (nodeOf (rowAt Source (L .source .rows) i)))
     go false false = refl
 
 module _ (L : Lowering) where
   abbrev r : ℕ
-  r = badRead (L .reads) (L .target) (widthsOfTarget L) (noClasses L)
+  r = badRead (L .reads) (L .target .rows) (widthsOfTarget L) (noClasses L)
 
   abbrev c : ℕ
-  c = badCall (L .calls) (L .cargs) (L .target) (classesOfReads L)
+  c = badCall (L .calls) (L .cargs) (L .target .rows) (classesOfReads L)
 
-  keeps-roots : Zero (rootAnswers (L .eroots) (L .map) (L .reads) (L .calls) (L .cargs) (L .target) (L .tbits) (L .troots))
+  keeps-roots : Zero (rootAnswers (entriesOf L) (L .target) (L .map) (L .eroots) (L .troots))
   keeps-roots = (keeps-refuse (ltb lead (length (L .eroots))) (RootMismatch lead) refl, (keeps-refuse (ltb x (length ps)) (CongruenceMismatch (length (L .eroots) + x)) refl, (keeps-refuse (ltb y (length qs)) (CongruenceMismatch (length (L .eroots) + length ps + y)) refl, (keeps-refuse (not (eqb (length (L .troots)) (length (L .eroots) + length ps + length qs))) (RootMismatch 0) refl, tt))))
     where
       lead : ℕ
       lead = badLead (L .map) (L .eroots) (L .troots)
 
       ps : List Pair
-      ps = readPairs (L .reads) (L .target) (L .tbits)
+      ps = readPairs (L .reads) (L .target .rows) (L .target .bits)
 
       qs : List Pair
       qs = callPairs (L .calls)
 
       x : ℕ
-      x = badCong (L .troots) (readRoot (L .reads) (L .target)) (length (L .eroots)) ps
+      x = badCong (L .troots) (readRoot (L .reads) (L .target .rows)) (length (L .eroots)) ps
 
       y : ℕ
-      y = badCong (L .troots) (callRoot (L .calls) (L .cargs) (L .target)) (length (L .eroots) + length ps) qs
+      y = badCong (L .troots) (callRoot (L .calls) (L .cargs) (L .target .rows)) (length (L .eroots) + length ps) qs
 
   pub keeps-match : keeps (firstRefusal (matchAnswers L)) ≡ false
   keeps-match =

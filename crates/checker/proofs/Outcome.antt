@@ -5,10 +5,10 @@ use mathlib.Core.Bool.{Bool, true, false}
 use mathlib.Core.List.{List, [], _++_}
 use borrow.Author.Tests.{ltb-false}
 use lib.Dec.{ltb}
-use lib.ListN.{length, getD, replicate, take, length-replicate}
+use lib.ListN.{length, replicate, take, length-replicate}
 use lib.Seq.{take-at}
 use Rattle.answers.specs.declared.Answer.{Answer}
-use Rattle.answers.specs.declared.Answer.the-variants.{Accepted, WorkShort}
+use Rattle.answers.specs.declared.Answer.the-variants.{WorkShort}
 use Rattle.answers.specs.Answer.{isAccepted, keeps, lent, andThen}
 use Rattle.lists.proofs.Build.{build-length}
 use Rattle.rows.specs.declared.Graph.{Graph}
@@ -20,11 +20,11 @@ use Rattle.lowering.specs.Tables.{readCount, readVar, callCount, callVar, readO
 use Rattle.lowering.specs.Lowering.{Lowering, sourceRows, targetRows}
 use Rattle.lowering.specs.Check.{widthsOfSource, widthsOfTarget, sourceIll, targetIll, noClasses, classesOfReads, classes, offsets, refuse, firstRefusal, countAnswers, graphAnswers, graphsAnswer, matchAnswers, checkAnswer, Outcome, outcome, check}
 use Rattle.lowering.proofs.Classes.{classes-keep-length}
-use Rattle.lowering.proofs.Inversion.{each-accepted, not-refused}
+use Rattle.lowering.proofs.Inversion.{Each, each, not-refused}
 use Rattle.lowering.proofs.Marks.{marks-length}
 use Rattle.lowering.proofs.Refusals.{refusal-append}
 use Rattle.matching.specs.Ready.{Formed}
-use Rattle.stages.proofs.Form.{no-stop-source, no-stop-target}
+use Rattle.forms.proofs.Form.{no-stop-source, no-stop-target}
 use Rattle.checker.proofs.Keeps.{keeps-count, keeps-graphs, keeps-match}
 
 -- a list of widths has one for each row, and stands in front
@@ -45,7 +45,7 @@ module _ (L : Lowering) (ws0 ws1 cls ent : List ℕ) where
   counts = firstRefusal (countAnswers (L .source) (L .target) (length ws0) (length ws1) (length cls) (length ent))
 
   abbrev pub forms : Answer
-  forms = graphsAnswer (L .source) (L .ebits) (L .eside) (L .target) (L .tbits)
+  forms = graphsAnswer (L .source) (L .target)
 
   abbrev pub matching : Answer
   matching = firstRefusal (matchAnswers L)
@@ -56,8 +56,8 @@ module _ (L : Lowering) (ws0 ws1 cls ent : List ℕ) where
   pub whole-is : whole ≡ andThen counts (andThen forms matching)
   whole-is =
       refusal-append (countAnswers (L .source) (L .target) (length ws0) (length ws1) (length cls) (length ent))
-      (graphAnswers (L .source) (L .ebits) (L .target) (L .tbits) (sourceIll L) (targetIll L) ++ matchAnswers L)
-      ∙ ap (andThen counts) (refusal-append (graphAnswers (L .source) (L .ebits) (L .target) (L .tbits) (sourceIll L) (targetIll L)) (matchAnswers L))
+      (graphAnswers (L .source) (L .target) (sourceIll (L .source)) (targetIll (L .target)) ++ matchAnswers L)
+      ∙ ap (andThen counts) (refusal-append (graphAnswers (L .source) (L .target) (sourceIll (L .source)) (targetIll (L .target))) (matchAnswers L))
 
   -- after the counts no refusal is one that writes nothing
   pub keeps-rest : isAccepted counts ≡ true → keeps whole ≡ false
@@ -66,7 +66,7 @@ module _ (L : Lowering) (ws0 ws1 cls ent : List ℕ) where
     where
       whole-keeps : (b : Bool) → isAccepted forms ≡ b → keeps whole ≡ false
       whole-keeps true e = rw (whole-is, c, e) (keeps-match L)
-      whole-keeps false e = rw (whole-is, c, e) (keeps-graphs (L .source) (L .ebits) (L .target) (L .tbits) (sourceIll L) (targetIll L))
+      whole-keeps false e = rw (whole-is, c, e) (keeps-graphs (L .source) (L .target) (sourceIll (L .source)) (targetIll (L .target)))
 
   settle : (a : Answer) (x0 x1 x2 x3 : List ℕ) → whole ≡ a → lent a ws0 (widthsOfSource L) ≡ x0 → lent a ws1 (widthsOfTarget L) ≡ x1
       → lent a cls (classes L (sourceRows L)) ≡ x2 → lent a ent (offsets L) ≡ x3 → outcome a x0 x1 x2 x3 ≡ check L ws0 ws1 cls ent
@@ -88,7 +88,7 @@ module _ (L : Lowering) (ws0 ws1 cls ent : List ℕ) where
           → outcome a (replicate (length ws0) 0) (replicate (length ws1) 0) (replicate (length cls) 0) (replicate (length ent) 0) ≡ check L ws0 ws1 cls ent
       graph-done e n =
           zeroed (whole-is ∙ rw (c, rw e at n) (sym e)) n
-          (rw e (keeps-graphs (L .source) (L .ebits) (L .target) (L .tbits) (sourceIll L) (targetIll L)))
+          (rw e (keeps-graphs (L .source) (L .target) (sourceIll (L .source)) (targetIll (L .target))))
 
       module _ (g : isAccepted forms ≡ true) where
         pub match-done : a ≡ matching → isAccepted a ≡ false
@@ -100,8 +100,8 @@ module _ (L : Lowering) (ws0 ws1 cls ent : List ℕ) where
             (classes L (sourceRows L) ++ replicate (length cls - targetRows L) 0) (offsets L ++ replicate (length ent - targetRows L) 0)
             ≡ check L ws0 ws1 cls ent
         accept-done e n =
-            settle a _ _ _ _ (whole-is ∙ rw (c, g) (sym e)) (rw (n, width-count Source (length (L .ebits)) (L .eside) (L .source)))
-            (rw (n, width-count Target (length (L .tbits)) [] (L .target))) (rw (n, class-count)) (rw (n, offset-count))
+            settle a _ _ _ _ (whole-is ∙ rw (c, g) (sym e)) (rw (n, width-count Source (length (L .source .bits)) (L .source .side) (L .source .rows)))
+            (rw (n, width-count Target (length (L .target .bits)) [] (L .target .rows))) (rw (n, class-count)) (rw (n, offset-count))
           where
             class-count : length (classes L (sourceRows L)) ≡ targetRows L
             class-count =
@@ -121,27 +121,27 @@ module _ (L : Lowering) (ws0 ws1 cls ent : List ℕ) where
     room : (k b n : ℕ) → isAccepted (refuse (ltb b n) (WorkShort k)) ≡ true → n ≤ b
     room k b n e = ltb-false b n (not-refused (ltb b n) (WorkShort k) refl e)
 
-    at : (k : ℕ) → isAccepted (getD (countAnswers (L .source) (L .target) (length ws0) (length ws1) (length cls) (length ent)) k Accepted) ≡ true
-    at k = each-accepted (countAnswers (L .source) (L .target) (length ws0) (length ws1) (length cls) (length ent)) c k
+    tests : Each (countAnswers (L .source) (L .target) (length ws0) (length ws1) (length cls) (length ent))
+    tests = each _ c
 
     pub room-0 : sourceRows L ≤ length ws0
-    room-0 = room 1 (length ws0) (sourceRows L) (at 2)
+    room-0 = let (_, (_, (w0, _))) = tests in room 1 (length ws0) (sourceRows L) w0
 
     pub room-1 : targetRows L ≤ length ws1
-    room-1 = room 2 (length ws1) (targetRows L) (at 3)
+    room-1 = let (_, (_, (_, (w1, _)))) = tests in room 2 (length ws1) (targetRows L) w1
 
     pub room-2 : targetRows L ≤ length cls
-    room-2 = room 3 (length cls) (targetRows L) (at 4)
+    room-2 = let (_, (_, (_, (_, (c, _))))) = tests in room 3 (length cls) (targetRows L) c
 
     pub room-3 : targetRows L ≤ length ent
-    room-3 = room 4 (length ent) (targetRows L) (at 5)
+    room-3 = let (_, (_, (_, (_, (_, (e, _)))))) = tests in room 4 (length ent) (targetRows L) e
 
   -- forms that pass are well formed
-  pub forms-formed : isAccepted forms ≡ true → Formed (L .source) (L .ebits) (L .eside) (L .target) (L .tbits)
+  pub forms-formed : isAccepted forms ≡ true → Formed (L .source) (L .target)
   forms-formed g =
       record {
-        source-formed = well-formed Source (length (L .ebits)) (L .eside) (L .source) (no-stop-source (L .source) (L .ebits) (L .target) (L .tbits) (sourceIll L) (targetIll L) g);
-        target-formed = well-formed Target (length (L .tbits)) [] (L .target) (no-stop-target (L .source) (L .ebits) (L .target) (L .tbits) (sourceIll L) (targetIll L) g);
+        source-formed = well-formed Source (length (L .source .bits)) (L .source .side) (L .source .rows) (no-stop-source (L .source) (L .target) (sourceIll (L .source)) (targetIll (L .target)) g);
+        target-formed = well-formed Target (length (L .target .bits)) [] (L .target .rows) (no-stop-target (L .source) (L .target) (sourceIll (L .source)) (targetIll (L .target)) g);
       }
 
 -- an outcome by its lists

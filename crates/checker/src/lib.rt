@@ -29,7 +29,7 @@ pub fn check(
         (now (reads .entry)) (now (calls .entry)) (now (cargs .entry)) (now (target .entry)) (now (tbits .entry)) (now (troots .entry)))
         (now (ws0 .entry)) (now (ws1 .entry)) (now (cls .entry)) (now (ent .entry)) ⌝ }
 {
-    let a = stages::count_answer(
+    let a = forms::count_answer(
         source.len(),
         target.len(),
         ws0.len(),
@@ -40,7 +40,7 @@ pub fn check(
     if !answers::is_accepted(a) {
         return a;
     }
-    let g = stages::graphs(source, ebits, eside, target, tbits, ws0, ws1);
+    let g = forms::graphs(source, ebits, eside, target, tbits, ws0, ws1);
     if !answers::is_accepted(g) {
         stages::clear_all(ws0, ws1, cls, ent);
         return g;

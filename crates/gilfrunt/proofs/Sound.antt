@@ -21,7 +21,7 @@ accepted : (w : Words) (r : Answer) → w ≡ wordsOf r → w .number ≡ 0 → 
 accepted w r e z = eq-eqb _ _ (ap (λ (v : Words). v .number) (sym e) ∙ z)
 
 module _ (w : Words) (r : Answer) (e : w ≡ wordsOf r) (ws0 ws1 cls ent x0 x1 x2 x3 : List ℕ) where
-  pub check-sound : (L : Lowering) → length (L .target) ≤ MAX → outcome r x0 x1 x2 x3 ≡ check L ws0 ws1 cls ent → w .number ≡ 0 → Sound L
+  pub check-sound : (L : Lowering) → length (L .target .rows) ≤ MAX → outcome r x0 x1 x2 x3 ≡ check L ws0 ws1 cls ent → w .number ≡ 0 → Sound L
   check-sound L slice o z = sound L ws0 ws1 cls ent slice (ap (λ (q : Outcome). isAccepted (q .answer)) (sym o) ∙ accepted w r e z)
 
   pub book-sound : (b words x4 : List ℕ) → length b ≤ MAX → judged r x0 x1 x2 x3 x4 ≡ judge b ws0 ws1 cls ent words → w .number ≡ 0 → Sound (held b)

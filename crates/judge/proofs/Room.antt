@@ -28,12 +28,12 @@ module _ (L : Lowering) (w0 w1 c e : ℕ) where
   again = go (isAccepted counts) refl
     where
       rest : Answer
-      rest = firstRefusal (graphAnswers (L .source) (L .ebits) (L .target) (L .tbits) (sourceIll L) (targetIll L) ++ matchAnswers L)
+      rest = firstRefusal (graphAnswers (L .source) (L .target) (sourceIll (L .source)) (targetIll (L .target)) ++ matchAnswers L)
 
       split : checkAnswer L w0 w1 c e ≡ andThen counts rest
       split =
           refusal-append (countAnswers (L .source) (L .target) w0 w1 c e)
-          (graphAnswers (L .source) (L .ebits) (L .target) (L .tbits) (sourceIll L) (targetIll L) ++ matchAnswers L)
+          (graphAnswers (L .source) (L .target) (sourceIll (L .source)) (targetIll (L .target)) ++ matchAnswers L)
 
       go : (t : Bool) → isAccepted counts ≡ t → cond t (checkAnswer L w0 w1 c e) counts ≡ checkAnswer L w0 w1 c e
       go true f = refl

@@ -19,7 +19,7 @@ fn room_answer(book: &[u8], w0: usize, w1: usize, c: usize, e: usize, room: usiz
     ensures answer { λ r. ⌜ r ≡ andThen (firstRefusal (countAnswers (held (now (book .entry)) .source) (held
         (now (book .entry)) .target) w0 w1 c e)) (refuse (ltb room (length (bookWords (now (book .entry))))) (WorkShort 5)) ⌝ }
 {
-    let a = stages::count_answer(
+    let a = forms::count_answer(
         book::word_count(book, 0),
         book::word_count(book, 8),
         w0,

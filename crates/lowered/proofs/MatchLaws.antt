@@ -16,10 +16,10 @@ use Rattle.lists.proofs.First.{first-all}
 use Rattle.rows.specs.declared.Graph.the-variants.{Target}
 use Rattle.wf.specs.Widths.{rowWidth}
 use Rattle.lowering.specs.Tables.{readCount, callCount, readClasses, callClasses, readOffsets, callOffsets}
-use Rattle.lowering.specs.Matching.{classesTo, refusedRow, allRowsAnswer, deadEntry}
-use Rattle.lowering.specs.Lowering.{Lowering, sourceRows, targetRows, bindingOf}
+use Rattle.lowering.specs.Matching.{noted, classesTo, refusedRow, allRowsAnswer, deadEntry}
+use Rattle.lowering.specs.Lowering.{Lowering, sourceRows, targetRows, bindingOf, entriesOf}
 use Rattle.lowering.specs.Check.{widthsOfTarget, noClasses, classesOfReads, classesOfTables, classes, offsets, answerOf, mismatch, rowsRefusal, deadVariable, refuse, firstRefusal, tableAnswers, rootAnswers, matchAnswers}
-use Rattle.lowering.proofs.Inversion.{each-accepted, not-refused, all-pass, first-refused}
+use Rattle.lowering.proofs.Inversion.{each, not-refused, all-pass, first-refused}
 use Rattle.lowering.proofs.Refusals.{refusal-append}
 use Rattle.pairs.specs.Walk.{ReadsIn}
 use Rattle.pairs.proofs.Inside.{reads-in}
@@ -31,32 +31,32 @@ module _ (L : Lowering) where
   answer = firstRefusal (matchAnswers L)
 
   abbrev pub tablesAnswer : Answer
-  tablesAnswer = firstRefusal (tableAnswers (L .reads) (L .calls) (L .cargs) (L .target) (widthsOfTarget L) (noClasses L))
+  tablesAnswer = firstRefusal (tableAnswers (entriesOf L) (L .target .rows) (widthsOfTarget L) (noClasses L))
 
   abbrev pub rootsAnswer : Answer
-  rootsAnswer = firstRefusal (rootAnswers (L .eroots) (L .map) (L .reads) (L .calls) (L .cargs) (L .target) (L .tbits) (L .troots))
+  rootsAnswer = firstRefusal (rootAnswers (entriesOf L) (L .target) (L .map) (L .eroots) (L .troots))
 
   abbrev rest : List Answer
   rest =
       rowsRefusal L
       ∷ refuse (ltb (deadVariable L) (targetRows L)) (DeadEntry (deadVariable L))
-      ∷ rootAnswers (L .eroots) (L .map) (L .reads) (L .calls) (L .cargs) (L .target) (L .tbits) (L .troots)
+      ∷ rootAnswers (entriesOf L) (L .target) (L .map) (L .eroots) (L .troots)
 
   pub map-3 : (length (L .map) ≡ sourceRows L → ⊥) → answer ≡ MapLength (sourceRows L) (length (L .map))
   unfolding firstRefusal
   map-3 n = rw (ne-eqb _ _ n)
 
   module _ (a : length (L .map) ≡ sourceRows L) where
-    after-map : answer ≡ firstRefusal (tableAnswers (L .reads) (L .calls) (L .cargs) (L .target) (widthsOfTarget L) (noClasses L) ++ rest)
+    after-map : answer ≡ firstRefusal (tableAnswers (entriesOf L) (L .target .rows) (widthsOfTarget L) (noClasses L) ++ rest)
     unfolding firstRefusal
     after-map = rw (eq-eqb _ _ a)
 
     pub tables-refuse : isAccepted tablesAnswer ≡ false → answer ≡ tablesAnswer
-    tables-refuse e = after-map ∙ refusal-append (tableAnswers (L .reads) (L .calls) (L .cargs) (L .target) (widthsOfTarget L) (noClasses L)) rest ∙ rw e
+    tables-refuse e = after-map ∙ refusal-append (tableAnswers (entriesOf L) (L .target .rows) (widthsOfTarget L) (noClasses L)) rest ∙ rw e
 
     module _ (b : isAccepted tablesAnswer ≡ true) where
       after-tables : answer ≡ firstRefusal rest
-      after-tables = after-map ∙ refusal-append (tableAnswers (L .reads) (L .calls) (L .cargs) (L .target) (widthsOfTarget L) (noClasses L)) rest ∙ rw b
+      after-tables = after-map ∙ refusal-append (tableAnswers (entriesOf L) (L .target .rows) (widthsOfTarget L) (noClasses L)) rest ∙ rw b
 
       pub rows-refuse : isAccepted (rowsRefusal L) ≡ false → answer ≡ rowsRefusal L
       unfolding firstRefusal
@@ -78,22 +78,22 @@ module _ (L : Lowering) where
 
   -- tables that pass are in range
   module _ (b : isAccepted tablesAnswer ≡ true) where
-    pub reads-inside : ReadsIn (L .reads) (L .target)
+    pub reads-inside : ReadsIn (L .reads) (L .target .rows)
     reads-inside =
-        reads-in (L .reads) (L .target) (widthsOfTarget L) (readClasses (L .reads) (noClasses L)) width-count
-        (all-pass _ (readCount (L .reads)) (not-refused _ (ReadTable _) refl (each-accepted (tableAnswers (L .reads) (L .calls) (L .cargs) (L .target) (widthsOfTarget L) (noClasses L)) b 0)))
+        reads-in (L .reads) (L .target .rows) (widthsOfTarget L) (readClasses (L .reads) (noClasses L)) width-count
+        (let (reads, _) = each _ b in all-pass _ (readCount (L .reads)) (not-refused _ (ReadTable _) refl reads))
       where
         width-count : length (widthsOfTarget L) ≤ targetRows L
-        width-count = let e = build-length (rowWidth Target (length (L .tbits)) [] (L .target)) (targetRows L) in omega arith
+        width-count = let e = build-length (rowWidth Target (length (L .target .bits)) [] (L .target .rows)) (targetRows L) in omega arith
 
     pub calls-inside : CallsIn (L .calls) (L .cargs)
     calls-inside =
-        calls-in (L .calls) (L .cargs) (L .target) (callClasses (L .calls) (classesOfReads L))
-        (all-pass _ (callCount (L .calls)) (not-refused _ (CallTable _) refl (each-accepted (tableAnswers (L .reads) (L .calls) (L .cargs) (L .target) (widthsOfTarget L) (noClasses L)) b 1)))
+        calls-in (L .calls) (L .cargs) (L .target .rows) (callClasses (L .calls) (classesOfReads L))
+        (let (_, (calls, _)) = each _ b in all-pass _ (callCount (L .calls)) (not-refused _ (CallTable _) refl calls))
 
 -- the steps of the code on plain lists: what each call has answered and left
 module _ (L : Lowering) (ws cls0 ent0 : List ℕ) (wide : ws ≡ widthsOfTarget L) (clear : cls0 ≡ noClasses L) (clear-too : ent0 ≡ noClasses L)
-    (t : Answer) (cls1 ent1 : List ℕ) (tables : t ≡ firstRefusal (tableAnswers (L .reads) (L .calls) (L .cargs) (L .target) ws cls0))
+    (t : Answer) (cls1 ent1 : List ℕ) (tables : t ≡ firstRefusal (tableAnswers (entriesOf L) (L .target .rows) ws cls0))
     (marked : isAccepted t ≡ true → cls1 ≡ callClasses (L .calls) (readClasses (L .reads) cls0 (readCount (L .reads))) (callCount (L .calls)))
     (placed : isAccepted t ≡ true → ent1 ≡ callOffsets (L .calls) (readOffsets (L .reads) ent0 (readCount (L .reads))) (callCount (L .calls)))
     (mapped : length (L .map) ≡ sourceRows L) where
@@ -122,7 +122,7 @@ module _ (L : Lowering) (ws cls0 ent0 : List ℕ) (wide : ws ≡ widthsOfTarget 
     ent-is : ent1 ≡ offsets L
     ent-is = rw clear-too at (placed ok)
 
-    module _ (r : Answer) (cls2 : List ℕ) (rows : r ≡ allRowsAnswer (bindingOf L) ent1 cls1) (after : cls2 ≡ classesTo (bindingOf L) cls1 (refusedRow (bindingOf L) ent1 cls1)) where
+    module _ (r : Answer) (cls2 : List ℕ) (rows : r ≡ allRowsAnswer (bindingOf L) (noted cls1 ent1)) (after : cls2 ≡ classesTo (bindingOf L) cls1 (refusedRow (bindingOf L) (noted cls1 ent1))) where
       rows-are : r ≡ rowsRefusal L
       rows-are = rows ∙ rw (cls-is, ent-is)
 

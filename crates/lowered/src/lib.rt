@@ -8,7 +8,7 @@ ghost use Rattle.answers.specs.Answer.{isAccepted};
 ghost use Rattle.rows.specs.declared.Graph.{Graph};
 ghost use Rattle.rows.specs.Row.{rowCount};
 ghost use Rattle.wf.specs.Widths.{widths};
-ghost use Rattle.lowering.specs.Lowering.{lowering};
+ghost use Rattle.lowering.specs.Lowering.{sourceGraph, targetGraph, lowering};
 ghost use Rattle.lowering.specs.Check.{classes, offsets, firstRefusal, matchAnswers};
 ghost use Rattle.matching.specs.Ready.{Formed};
 use answers::Answer;
@@ -31,7 +31,7 @@ fn matches(
     cls: &mut [u64],
     ent: &mut [u64],
 ) -> Answer
-    requires { ⌜ Formed (now source) (now ebits) (now eside) (now target) (now tbits) ⌝ }
+    requires { ⌜ Formed (sourceGraph (now source) (now ebits) (now eside)) (targetGraph (now target) (now tbits)) ⌝ }
     requires { ⌜ now ws ≡ widths Graph.Target (length (now tbits)) [] (now target) ⌝ }
     requires { ⌜ now cls ≡ replicate (rowCount Graph.Target (now target)) 0 ⌝ }
     requires { ⌜ now ent ≡ replicate (rowCount Graph.Target (now target)) 0 ⌝ }
@@ -94,7 +94,7 @@ pub fn lowered(
     cls: &mut [u64],
     ent: &mut [u64],
 ) -> Answer
-    requires { ⌜ Formed (now source) (now ebits) (now eside) (now target) (now tbits) ⌝ }
+    requires { ⌜ Formed (sourceGraph (now source) (now ebits) (now eside)) (targetGraph (now target) (now tbits)) ⌝ }
     requires { ⌜ now ws ≡ widths Graph.Target (length (now tbits)) [] (now target) ⌝ }
     requires { ⌜ rowCount Graph.Target (now target) ≤ length (now cls) ⌝ }
     requires { ⌜ rowCount Graph.Target (now target) ≤ length (now ent) ⌝ }

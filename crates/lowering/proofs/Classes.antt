@@ -7,14 +7,12 @@ use lib.Dec.{eqb}
 use lib.ListN.{length, length-set}
 use Rattle.lists.specs.Trace.{trace}
 use Rattle.rows.specs.declared.Graph.the-variants.{Source}
-use Rattle.rows.specs.declared.Node.{Node}
-use Rattle.rows.specs.declared.Node.the-variants.{Var, Const, Un, Bin, Extract, Extend, Ite, Select, Call, Unknown}
 use Rattle.rows.specs.Row.{rowAt}
 use Rattle.rows.specs.Node.{nodeOf}
 use Rattle.lowering.specs.declared.Walk.{Walk}
 use Rattle.lowering.specs.declared.Walk.the-variants.{RanOut, Met, Lost}
 use Rattle.lowering.specs.Images.{MAX, mapAt}
-use Rattle.lowering.specs.Matching.{selectWalk, endClasses, nodeClasses, rowClasses}
+use Rattle.lowering.specs.Matching.{selectWalk, Kind, var, const, core, select, call, unknown, kindOf, endClasses, kindClasses, nodeClasses, rowClasses}
 use Rattle.lowering.specs.Lowering.{Lowering, Binding, bindingOf}
 use Rattle.lowering.specs.Check.{classesOfTables, classes}
 
@@ -24,25 +22,21 @@ end-length cls (Met r v) = refl
 end-length cls Lost = refl
 
 module _ (B : Binding) where
-  node-length : (cls : List ℕ) (r : ℕ) (node : Node) → length (nodeClasses B cls r node) ≡ length cls
-  node-length cls r (Var w) = length-set cls r 1
-  node-length cls r (Const s w) = refl
-  node-length cls r (Un t a) = refl
-  node-length cls r (Bin t a b) = refl
-  node-length cls r (Extract h l a) = refl
-  node-length cls r (Extend t a n) = refl
-  node-length cls r (Ite c t e) = refl
-  node-length cls r (Select a j s k) = end-length cls (selectWalk B r j s k)
-  node-length cls r (Call f w s k) = length-set cls r 5
-  node-length cls r Unknown = refl
+  kind-length : (cls : List ℕ) (r : ℕ) (k : Kind) → length (kindClasses B cls r k) ≡ length cls
+  kind-length cls r (var w) = length-set cls r 1
+  kind-length cls r const = refl
+  kind-length cls r (core node) = refl
+  kind-length cls r (select a j s k) = end-length cls (selectWalk B r j s k)
+  kind-length cls r (call f w s k) = length-set cls r 5
+  kind-length cls r unknown = refl
 
   row-length : (i : ℕ) (cls : List ℕ) → length (rowClasses B i cls) ≡ length cls
   unfolding rowClasses
   row-length i cls = go (eqb (mapAt (B .map) i) MAX)
     where
-      go : (b : Bool) → length (cond b cls (nodeClasses B cls (mapAt (B .map) i) (nodeOf (rowAt Source (B .source) i)))) ≡ length cls
+      go : (b : Bool) → length (cond b cls (nodeClasses B cls (mapAt (B .map) i) (nodeOf (rowAt Source (B .source .rows) i)))) ≡ length cls
       go true = refl
-      go false = node-length cls (mapAt (B .map) i) (nodeOf (rowAt Source (B .source) i))
+      go false = kind-length cls (mapAt (B .map) i) (kindOf (nodeOf (rowAt Source (B .source .rows) i)))
 
 pub classes-keep-length : (L : Lowering) (n : ℕ) → length (classes L n) ≡ length (classesOfTables L)
 unfolding trace

@@ -1,32 +1,37 @@
 -- What a first refusal that is none says of the answers, a search that found nothing of its tests. Assumes nothing.
-use Prim.Native.Nat.{ℕ, zero, suc, _<_}
+use Prim.Native.Nat.{ℕ, _<_}
 use mathlib.Core.Path.{_≡_, refl, sym, _∙_}
 use mathlib.Core.Bool.{Bool, true, false, cond, not}
-use mathlib.Core.List.{List, [], _∷_}
+use mathlib.Core.List.{List, [], _∷_, _++_}
 use native.Mathlib.Omega.{arith}
 use borrow.Author.Tests.{ltb-true, ltb-false, not-true, not-false}
 use lib.Dec.{ltb}
-use lib.ListN.{getD}
 use Rattle.answers.specs.declared.Answer.{Answer}
-use Rattle.answers.specs.declared.Answer.the-variants.{Accepted}
 use Rattle.answers.specs.Answer.{isAccepted}
 use Rattle.lists.specs.First.{first}
 use Rattle.lists.proofs.Choice.{no-way}
 use Rattle.lists.proofs.First.{first-hit, first-before}
 use Rattle.lowering.specs.Check.{refuse, firstRefusal}
 
--- where the first refusal is none, each answer accepts
-pub each-accepted : (l : List Answer) → isAccepted (firstRefusal l) ≡ true → (k : ℕ) → isAccepted (getD l k Accepted) ≡ true
+-- each answer of a list accepts; where the first refusal is none, each does
+abbrev pub Each : List Answer → Type 0
+Each [] = Unit {0}
+Each (a ∷ more) = (isAccepted a ≡ true) × Each more
+
+pub each : (l : List Answer) → isAccepted (firstRefusal l) ≡ true → Each l
 unfolding firstRefusal
-each-accepted [] e k = refl
-each-accepted (a ∷ more) e k = go _ refl e (each-accepted more) k
+each [] e = tt
+each (a ∷ more) e = go _ refl e (each more)
   where
-    go : (b : Bool) → isAccepted a ≡ b → isAccepted (cond b (firstRefusal more) a) ≡ true
-        → (isAccepted (firstRefusal more) ≡ true → (j : ℕ) → isAccepted (getD more j Accepted) ≡ true)
-        → (j : ℕ) → isAccepted (getD (a ∷ more) j Accepted) ≡ true
-    go true q f r zero = q
-    go true q f r (suc j) = r f j
-    go false q f r j = no-way (sym f ∙ q)
+    go : (b : Bool) → isAccepted a ≡ b → isAccepted (cond b (firstRefusal more) a) ≡ true → (isAccepted (firstRefusal more) ≡ true → Each more)
+        → (isAccepted a ≡ true) × Each more
+    go true q f r = (q, r f)
+    go false q f r = no-way (sym f ∙ q)
+
+-- two lists, one after the other
+pub each-append : (xs ys : List Answer) → Each (xs ++ ys) → Each xs × Each ys
+each-append [] ys e = (tt, e)
+each-append (a ∷ xs) ys (x, e) = let (p, q) = each-append xs ys e in ((x, p), q)
 
 -- a test with a refusal failed
 pub not-refused : (b : Bool) (a : Answer) → isAccepted a ≡ false → isAccepted (refuse b a) ≡ true → b ≡ false

@@ -12,23 +12,24 @@ use Rattle.rows.specs.declared.Graph.the-variants.{Source, Target}
 use Rattle.rows.specs.Row.{rowCount, ragged}
 use Rattle.encoding.specs.Encoding.{badRow, badBit}
 use Rattle.wf.specs.Widths.{illRow, widths}
-use Rattle.lowering.specs.Lowering.{Lowering, sourceRows, targetRows, bindingOf}
+use Rattle.lowering.specs.Lowering.{SourceGraph, TargetGraph, Lowering, Entries, sourceRows, targetRows, bindingOf, entriesOf}
 use Rattle.lowering.specs.Tables.{readCount, callCount, badRead, badCall, readClasses, callClasses, readOffsets, callOffsets}
-use Rattle.lowering.specs.Matching.{rowAnswer, classesTo, refusedRow, allRowsAnswer, deadEntry}
+use Rattle.lowering.specs.Matching.{noted, rowAnswer, classesTo, refusedRow, allRowsAnswer, deadEntry}
 use Rattle.lowering.specs.Roots.{Pair, badLead, readPairs, callPairs, readRoot, callRoot, badCong}
 
+-- the row of each graph that is named as ill-formed, or the number of rows
+abbrev pub sourceIll : SourceGraph → ℕ
+sourceIll S = illRow Source (length (S .bits)) (S .side) (S .rows)
+
+abbrev pub targetIll : TargetGraph → ℕ
+targetIll T = illRow Target (length (T .bits)) [] (T .rows)
+
 module _ (L : Lowering) where
-  abbrev pub sourceIll : ℕ
-  sourceIll = illRow Source (length (L .ebits)) (L .eside) (L .source)
-
-  abbrev pub targetIll : ℕ
-  targetIll = illRow Target (length (L .tbits)) [] (L .target)
-
   abbrev pub widthsOfSource : List ℕ
-  widthsOfSource = widths Source (length (L .ebits)) (L .eside) (L .source)
+  widthsOfSource = widths Source (length (L .source .bits)) (L .source .side) (L .source .rows)
 
   abbrev pub widthsOfTarget : List ℕ
-  widthsOfTarget = widths Target (length (L .tbits)) [] (L .target)
+  widthsOfTarget = widths Target (length (L .target .bits)) [] (L .target .rows)
 
   -- "Each target row has a class, first 0": classes before the calls, before the rows, before row n
   abbrev pub noClasses : List ℕ
@@ -48,19 +49,19 @@ module _ (L : Lowering) where
 
   -- the answer of row i, the first row that is refused, and the answer of all rows
   abbrev pub answerOf : ℕ → Answer
-  answerOf i = rowAnswer (bindingOf L) offsets (classes i) i
+  answerOf i = rowAnswer (bindingOf L) (noted (classes i) offsets) i
 
   abbrev pub mismatch : ℕ
-  mismatch = refusedRow (bindingOf L) offsets classesOfTables
+  mismatch = refusedRow (bindingOf L) (noted classesOfTables offsets)
 
   abbrev pub rowsRefusal : Answer
-  rowsRefusal = allRowsAnswer (bindingOf L) offsets classesOfTables
+  rowsRefusal = allRowsAnswer (bindingOf L) (noted classesOfTables offsets)
 
   abbrev pub deadVariable : ℕ
   deadVariable = deadEntry (classes (sourceRows L)) (targetRows L)
 
   abbrev pub pairsOfReads : List Pair
-  pairsOfReads = readPairs (L .reads) (L .target) (L .tbits)
+  pairsOfReads = readPairs (L .reads) (L .target .rows) (L .target .bits)
 
   abbrev pub pairsOfCalls : List Pair
   pairsOfCalls = callPairs (L .calls)
@@ -83,42 +84,41 @@ firstRefusal (a ∷ more) = cond (isAccepted a) (firstRefusal more) a
 
 -- "15 RowCount: a graph's word count is no multiple of its row (place 1 source, 2 target). 18 WorkShort: a work list is shorter than its graph
 -- (1 source widths, 2 target widths, 3 classes, 4 entries)"
-abbrev pub countAnswers : List ℕ → List ℕ → ℕ → ℕ → ℕ → ℕ → List Answer
-countAnswers source target w0 w1 c e =
-    refuse (ragged Source source) (RowCount 1)
-    ∷ refuse (ragged Target target) (RowCount 2)
-    ∷ refuse (ltb w0 (rowCount Source source)) (WorkShort 1)
-    ∷ refuse (ltb w1 (rowCount Target target)) (WorkShort 2)
-    ∷ refuse (ltb c (rowCount Target target)) (WorkShort 3)
-    ∷ refuse (ltb e (rowCount Target target)) (WorkShort 4)
+abbrev pub countAnswers : SourceGraph → TargetGraph → ℕ → ℕ → ℕ → ℕ → List Answer
+countAnswers S T w0 w1 c e =
+    refuse (ragged Source (S .rows)) (RowCount 1)
+    ∷ refuse (ragged Target (T .rows)) (RowCount 2)
+    ∷ refuse (ltb w0 (rowCount Source (S .rows))) (WorkShort 1)
+    ∷ refuse (ltb w1 (rowCount Target (T .rows))) (WorkShort 2)
+    ∷ refuse (ltb c (rowCount Target (T .rows))) (WorkShort 3)
+    ∷ refuse (ltb e (rowCount Target (T .rows))) (WorkShort 4)
     ∷ []
 
 -- "16 BadRow: .. (row; detail 1 or 2 for the graph). 17 BadBit: .. (position; 1 or 2) .. where one has two causes, the source or lower list goes
 -- first"; "Then 1 Ext (row); 2 Core (row)", of the rows named as ill-formed, if they are rows
-abbrev pub graphAnswers : List ℕ → List ℕ → List ℕ → List ℕ → ℕ → ℕ → List Answer
-graphAnswers source ebits target tbits ill0 ill1 =
-    refuse (ltb (badRow Source source) (rowCount Source source)) (BadRow (badRow Source source) 1)
-    ∷ refuse (ltb (badRow Target target) (rowCount Target target)) (BadRow (badRow Target target) 2)
-    ∷ refuse (ltb (badBit ebits) (length ebits)) (BadBit (badBit ebits) 1)
-    ∷ refuse (ltb (badBit tbits) (length tbits)) (BadBit (badBit tbits) 2)
-    ∷ refuse (ltb ill0 (rowCount Source source)) (Ext ill0)
-    ∷ refuse (ltb ill1 (rowCount Target target)) (Core ill1)
+abbrev pub graphAnswers : SourceGraph → TargetGraph → ℕ → ℕ → List Answer
+graphAnswers S T ill0 ill1 =
+    refuse (ltb (badRow Source (S .rows)) (rowCount Source (S .rows))) (BadRow (badRow Source (S .rows)) 1)
+    ∷ refuse (ltb (badRow Target (T .rows)) (rowCount Target (T .rows))) (BadRow (badRow Target (T .rows)) 2)
+    ∷ refuse (ltb (badBit (S .bits)) (length (S .bits))) (BadBit (badBit (S .bits)) 1)
+    ∷ refuse (ltb (badBit (T .bits)) (length (T .bits))) (BadBit (badBit (T .bits)) 2)
+    ∷ refuse (ltb ill0 (rowCount Source (S .rows))) (Ext ill0)
+    ∷ refuse (ltb ill1 (rowCount Target (T .rows))) (Core ill1)
     ∷ []
 
-abbrev pub graphsAnswer : List ℕ → List ℕ → List ℕ → List ℕ → List ℕ → Answer
-graphsAnswer source ebits eside target tbits =
-    firstRefusal (graphAnswers source ebits target tbits (illRow Source (length ebits) eside source) (illRow Target (length tbits) [] target))
+abbrev pub graphsAnswer : SourceGraph → TargetGraph → Answer
+graphsAnswer S T = firstRefusal (graphAnswers S T (sourceIll S) (targetIll T))
 
 -- "12 RootMismatch; 13 CongruenceMismatch (position in the target root list, possibly its length); 12 for surplus roots."
 -- The place of 12 is the position of the first source root that has no image, differs or finds the list ended; roots left over have none
-abbrev pub rootAnswers : List ℕ → List ℕ → List ℕ → List ℕ → List ℕ → List ℕ → List ℕ → List ℕ → List Answer
-rootAnswers eroots map reads calls cargs target tbits troots =
+abbrev pub rootAnswers : Entries → TargetGraph → List ℕ → List ℕ → List ℕ → List Answer
+rootAnswers E T map eroots troots =
     let lead = badLead map eroots troots in
-    let ps = readPairs reads target tbits in
-    let qs = callPairs calls in
+    let ps = readPairs (E .reads) (T .rows) (T .bits) in
+    let qs = callPairs (E .calls) in
     let from = length eroots + length ps in
-    let r = badCong troots (readRoot reads target) (length eroots) ps in
-    let c = badCong troots (callRoot calls cargs target) from qs in
+    let r = badCong troots (readRoot (E .reads) (T .rows)) (length eroots) ps in
+    let c = badCong troots (callRoot (E .calls) (E .cargs) (T .rows)) from qs in
     refuse (ltb lead (length eroots)) (RootMismatch lead)
     ∷ refuse (ltb r (length ps)) (CongruenceMismatch (length eroots + r))
     ∷ refuse (ltb c (length qs)) (CongruenceMismatch (from + c))
@@ -126,28 +126,28 @@ rootAnswers eroots map reads calls cargs target tbits troots =
     ∷ []
 
 -- "5 ReadTable (entry); 6 CallTable (entry)", over the target's widths and its classes, "first 0"
-abbrev pub tableAnswers : List ℕ → List ℕ → List ℕ → List ℕ → List ℕ → List ℕ → List Answer
-tableAnswers reads calls cargs target ws cls =
-    let r = badRead reads target ws cls in
-    let c = badCall calls cargs target (readClasses reads cls (readCount reads)) in
-    refuse (ltb r (readCount reads)) (ReadTable r) ∷ refuse (ltb c (callCount calls)) (CallTable c) ∷ []
+abbrev pub tableAnswers : Entries → List ℕ → List ℕ → List ℕ → List Answer
+tableAnswers E target ws cls =
+    let r = badRead (E .reads) target ws cls in
+    let c = badCall (E .calls) (E .cargs) target (readClasses (E .reads) cls (readCount (E .reads))) in
+    refuse (ltb r (readCount (E .reads))) (ReadTable r) ∷ refuse (ltb c (callCount (E .calls))) (CallTable c) ∷ []
 
 -- "3 MapLength (expected, found); 5 ReadTable (entry); 6 CallTable (entry) .. Then by row 4 .. 11. Then 14 DeadEntry (first variable)", then the
 -- roots
 abbrev pub matchAnswers : Lowering → List Answer
 matchAnswers L =
     refuse (not (eqb (length (L .map)) (sourceRows L))) (MapLength (sourceRows L) (length (L .map)))
-    ∷ tableAnswers (L .reads) (L .calls) (L .cargs) (L .target) (widthsOfTarget L) (noClasses L)
+    ∷ tableAnswers (entriesOf L) (L .target .rows) (widthsOfTarget L) (noClasses L)
     ++ (rowsRefusal L
     ∷ refuse (ltb (deadVariable L) (targetRows L)) (DeadEntry (deadVariable L))
-    ∷ rootAnswers (L .eroots) (L .map) (L .reads) (L .calls) (L .cargs) (L .target) (L .tbits) (L .troots))
+    ∷ rootAnswers (entriesOf L) (L .target) (L .map) (L .eroots) (L .troots))
 
 -- the answer, with room for some words in each of the four lists
 abbrev pub checkAnswer : Lowering → ℕ → ℕ → ℕ → ℕ → Answer
 checkAnswer L w0 w1 c e =
     firstRefusal
     (countAnswers (L .source) (L .target) w0 w1 c e
-    ++ (graphAnswers (L .source) (L .ebits) (L .target) (L .tbits) (sourceIll L) (targetIll L) ++ matchAnswers L))
+    ++ (graphAnswers (L .source) (L .target) (sourceIll (L .source)) (targetIll (L .target)) ++ matchAnswers L))
 
 -- an answer and what stands in the four lent lists afterwards
 pub record Outcome : Type 0 where

@@ -14,35 +14,35 @@ use Rattle.lists.proofs.First.{first-at, first-past}
 use Rattle.rows.specs.declared.Graph.the-variants.{Source}
 use Rattle.rows.specs.Row.{rowCount}
 use Rattle.lowering.specs.Lowering.{Binding}
-use Rattle.lowering.specs.Matching.{rowAnswer, rowClasses, classesTo, refusedRow, allRowsAnswer}
+use Rattle.lowering.specs.Matching.{Noted, noted, rowAnswer, rowClasses, classesTo, notedTo, refusedRow, allRowsAnswer}
 
-module _ (B : Binding) (ent cls : List ℕ) where
+module _ (B : Binding) (N : Noted) where
   -- the classes before row i, its answer, and whether it is refused
   abbrev pub before : ℕ → List ℕ
-  before i = classesTo B cls i
+  before i = classesTo B (N .classes) i
 
   abbrev answer : ℕ → Answer
-  answer i = rowAnswer B ent (before i) i
+  answer i = rowAnswer B (notedTo B N i) i
 
   abbrev pub refused : ℕ → Bool
   refused i = not (isAccepted (answer i))
 
   abbrev count : ℕ
-  count = rowCount Source (B .source)
+  count = rowCount Source (B .source .rows)
 
   abbrev pub stop : ℕ
-  stop = refusedRow B ent cls
+  stop = refusedRow B N
 
   abbrev pub whole : Answer
-  whole = allRowsAnswer B ent cls
+  whole = allRowsAnswer B N
 
-  pub rows-start : cls ≡ before 0
+  pub rows-start : N .classes ≡ before 0
   unfolding trace
   rows-start = refl
 
   -- a search that has come to row i, where old are the classes and new those after the row, with answer a
   module _ (i : ℕ) (old : List ℕ) (passed : (j : ℕ) → j < i → refused j ≡ false) (o : old ≡ before i) where
-    module _ (a : Answer) (new : List ℕ) (h : i < count) (m : a ≡ rowAnswer B ent old i)
+    module _ (a : Answer) (new : List ℕ) (h : i < count) (m : a ≡ rowAnswer B (noted old (N .offsets)) i)
         (n : new ≡ cond (isAccepted a) (rowClasses B i old) old) where
       here : a ≡ answer i
       here = m ∙ rw o

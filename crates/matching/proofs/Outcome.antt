@@ -15,6 +15,7 @@ use Rattle.rows.specs.Tags.{tVar, tConst, tSelect, tCall}
 use Rattle.rows.specs.Node.{nodeOf}
 use Rattle.wf.specs.Promise.{RowFormed}
 use Rattle.wf.specs.Widths.{widths}
+use Rattle.lowering.specs.Lowering.{SourceGraph, TargetGraph}
 use Rattle.lowering.specs.Matching.{matched}
 use Rattle.chains.specs.Ready.{PairsWithin}
 use Rattle.applied.specs.Ready.{ArgsWithin}
@@ -22,37 +23,36 @@ use Rattle.matching.specs.Ready.{Formed}
 use Rattle.matching.proofs.Rows.{Plain, const-bits, select-earlier, select-pairs, call-args, plain, accepted-matched}
 
 -- row i of the source, with the words e
-module _ (source ebits eside target tbits : List ℕ) (F : Formed source ebits eside target tbits) (i : ℕ) (h : i < rowCount Source source) (e : List ℕ) (q : e ≡ rowAt Source source i) where
+module _ (S : SourceGraph) (T : TargetGraph) (F : Formed S T) (i : ℕ) (h : i < rowCount Source (S .rows)) (e : List ℕ) (q : e ≡ rowAt Source (S .rows) i) where
   abbrev width : ℕ → ℕ
-  width a = getD (widths Source (length ebits) eside source) a 0
+  width a = getD (widths Source (length (S .bits)) (S .side) (S .rows)) a 0
 
-  row-formed : RowFormed (length ebits) eside width i (nodeOf e)
+  row-formed : RowFormed (length (S .bits)) (S .side) width i (nodeOf e)
   row-formed = rw q (F .source-formed i h)
 
-  pub const-ready : BitsWithin ebits e
-  const-ready = const-bits (length ebits) eside width i e row-formed
+  pub const-ready : BitsWithin (S .bits) e
+  const-ready = const-bits (length (S .bits)) (S .side) width i e row-formed
 
   pub select-ready : getD e 0 0 ≡ tSelect
-      → (getD e 2 0 < rowCount Source source) × PairsWithin source eside (getD e 3 0) (getD e 4 0) × ConstsWithin Source ebits source
+      → (getD e 2 0 < rowCount Source (S .rows)) × PairsWithin (S .rows) (S .side) (getD e 3 0) (getD e 4 0) × ConstsWithin Source (S .bits) (S .rows)
   select-ready t =
-      let j = select-earlier (length ebits) eside width i e row-formed t in (
+      let j = select-earlier (length (S .bits)) (S .side) width i e row-formed t in (
         omega (arith, j, h),
         λ l k.
-            let p = select-pairs (length ebits) eside width i e row-formed t l k in
+            let p = select-pairs (length (S .bits)) (S .side) width i e row-formed t l k in
             let a = p .index-earlier in
             (p .within, omega (arith, a, h)),
-        bits-within Source ebits eside source (widths Source (length ebits) eside source) (F .source-formed),
+        bits-within Source (S .bits) (S .side) (S .rows) (widths Source (length (S .bits)) (S .side) (S .rows)) (F .source-formed),
       )
 
-  pub call-ready : getD e 0 0 ≡ tCall → ArgsWithin eside (getD e 3 0) (getD e 4 0)
-  call-ready t l k = call-args (length ebits) eside width i e row-formed t l k .within
+  pub call-ready : getD e 0 0 ≡ tCall → ArgsWithin (S .side) (getD e 3 0) (getD e 4 0)
+  call-ready t l k = call-args (length (S .bits)) (S .side) width i e row-formed t l k .within
 
   pub plain-ready : (getD e 0 0 ≡ tVar → ⊥) → (getD e 0 0 ≡ tConst → ⊥) → (getD e 0 0 ≡ tSelect → ⊥) → (getD e 0 0 ≡ tCall → ⊥) → Plain (nodeOf e)
-  plain-ready = plain (length ebits) eside width i e row-formed
+  plain-ready = plain (length (S .bits)) (S .side) width i e row-formed
 
-pub consts-target : (source ebits eside target tbits : List ℕ) → Formed source ebits eside target tbits → ConstsWithin Target tbits target
-consts-target source ebits eside target tbits F =
-    bits-within Target tbits [] target (widths Target (length tbits) [] target) (F .target-formed)
+pub consts-target : (S : SourceGraph) (T : TargetGraph) → Formed S T → ConstsWithin Target (T .bits) (T .rows)
+consts-target S T F = bits-within Target (T .bits) [] (T .rows) (widths Target (length (T .bits)) [] (T .rows)) (F .target-formed)
 
 -- a row's answer is its match, and its classes follow where it is accepted
 pub outcome : (b x : Bool) (refusal a answer : Answer) (old new after classes : List ℕ) → isAccepted refusal ≡ false → b ≡ x → new ≡ cond b after old

@@ -1,7 +1,6 @@
 -- What a source row's tag word says of its answer and classes, and what its form promises. Assumes nothing.
 use Prim.Native.Nat.{ℕ, _+_, _<_, _≤_}
-use mathlib.Core.Path.{_≡_, refl}
-use mathlib.Core.Bool.{Bool, true, false}
+use mathlib.Core.Path.{_≡_, refl, sym, ap, _∙_}
 use mathlib.Core.List.{List}
 use lib.ListN.{getD, set}
 use Rattle.answers.specs.declared.Answer.{Answer}
@@ -17,35 +16,27 @@ use Rattle.rows.proofs.View.{View, is-var, is-const, is-extract, is-extend, is-
 use Rattle.wf.specs.Promise.{RowFormed, Follows, PairFormed, ArgFormed}
 use Rattle.lowering.specs.Lowering.{Binding}
 use Rattle.lowering.specs.Images.{sameConst}
-use Rattle.lowering.specs.Matching.{selectWalk, endGood, endClasses, callMatches, varMatches, nodeMatches, matched, nodeAnswer, nodeClasses}
+use Rattle.lowering.specs.Matching.{Noted, mappedArg, selectWalk, endGood, endClasses, callMatches, varMatches, nodeMatches, matched, nodeAnswer, nodeClasses}
+use Rattle.lowering.specs.Matching.{core, kindOf, kindAnswer, kindClasses}
 
 -- a node that is matched by its mapped row
 abbrev pub Plain : Node → Type 0
-Plain (Var w) = ⊥
-Plain (Const s w) = ⊥
-Plain (Un t a) = Unit {0}
-Plain (Bin t a b) = Unit {0}
-Plain (Extract h l a) = Unit {0}
-Plain (Extend t a n) = Unit {0}
-Plain (Ite c t e) = Unit {0}
-Plain (Select a j s k) = ⊥
-Plain (Call f w s k) = ⊥
-Plain Unknown = ⊥
+Plain node = kindOf node ≡ core node
 
 -- where the tag is none of the four others and the row follows a rule
 viewed-plain : (nbits : ℕ) (side : List ℕ) (width : ℕ → ℕ) (i w t a b c d : ℕ) (node : Node)
     → (t ≡ tVar → ⊥) → (t ≡ tConst → ⊥) → (t ≡ tSelect → ⊥) → (t ≡ tCall → ⊥)
     → Follows nbits side width i node w → View t a b c d node → Plain node
-viewed-plain nbits side width i w t a b c d node n0 n1 n37 n38 f (is-var e) = n0 e
-viewed-plain nbits side width i w t a b c d node n0 n1 n37 n38 f (is-const e) = n1 e
-viewed-plain nbits side width i w t a b c d node n0 n1 n37 n38 f (is-extract e) = tt
-viewed-plain nbits side width i w t a b c d node n0 n1 n37 n38 f (is-extend e) = tt
-viewed-plain nbits side width i w t a b c d node n0 n1 n37 n38 f (is-ite e) = tt
-viewed-plain nbits side width i w t a b c d node n0 n1 n37 n38 f (is-un e) = tt
-viewed-plain nbits side width i w t a b c d node n0 n1 n37 n38 f (is-select e) = n37 e
-viewed-plain nbits side width i w t a b c d node n0 n1 n37 n38 f (is-call e) = n38 e
-viewed-plain nbits side width i w t a b c d node n0 n1 n37 n38 f (is-bin g) = tt
-viewed-plain nbits side width i w t a b c d node n0 n1 n37 n38 f (is-unknown l) = f
+viewed-plain nbits side width i w t a b c d node n0 n1 n37 n38 f (is-var e) = absurd (n0 e)
+viewed-plain nbits side width i w t a b c d node n0 n1 n37 n38 f (is-const e) = absurd (n1 e)
+viewed-plain nbits side width i w t a b c d node n0 n1 n37 n38 f (is-extract e) = refl
+viewed-plain nbits side width i w t a b c d node n0 n1 n37 n38 f (is-extend e) = refl
+viewed-plain nbits side width i w t a b c d node n0 n1 n37 n38 f (is-ite e) = refl
+viewed-plain nbits side width i w t a b c d node n0 n1 n37 n38 f (is-un e) = refl
+viewed-plain nbits side width i w t a b c d node n0 n1 n37 n38 f (is-select e) = absurd (n37 e)
+viewed-plain nbits side width i w t a b c d node n0 n1 n37 n38 f (is-call e) = absurd (n38 e)
+viewed-plain nbits side width i w t a b c d node n0 n1 n37 n38 f (is-bin g) = refl
+viewed-plain nbits side width i w t a b c d node n0 n1 n37 n38 f (is-unknown l) = absurd f
 
 -- the promise of a row, by its tag word
 module _ (nbits : ℕ) (side : List ℕ) (width : ℕ → ℕ) (i : ℕ) (e : List ℕ) (formed : RowFormed nbits side width i (nodeOf e)) where
@@ -64,69 +55,52 @@ module _ (nbits : ℕ) (side : List ℕ) (width : ℕ → ℕ) (i : ℕ) (e : Li
   pub plain : (getD e 0 0 ≡ tVar → ⊥) → (getD e 0 0 ≡ tConst → ⊥) → (getD e 0 0 ≡ tSelect → ⊥) → (getD e 0 0 ≡ tCall → ⊥) → Plain (nodeOf e)
   plain n0 n1 n37 n38 = viewed-plain nbits side width i (width i) _ _ _ _ _ (nodeOf e) n0 n1 n37 n38 (formed .follows) (view-of e)
 
--- the answer and the classes of a row, by its tag word
-module _ (B : Binding) (ent cls : List ℕ) (i r : ℕ) (e : List ℕ) where
-  abbrev answer : Node → Answer
-  answer node = nodeAnswer B ent cls i r node
+-- the answer and the classes of source row i, with the words e, by its tag word
+module _ (B : Binding) (N : Noted) (i r : ℕ) (e : List ℕ) (q : e ≡ rowAt Source (B .source .rows) i) where
+  abbrev answer : Answer
+  answer = nodeAnswer B N i r (nodeOf (rowAt Source (B .source .rows) i))
 
-  abbrev classes : Node → List ℕ
-  classes node = nodeClasses B cls r node
+  abbrev classes : List ℕ
+  classes = nodeClasses B (N .classes) r (nodeOf (rowAt Source (B .source .rows) i))
 
-  pub var-answer : getD e 0 0 ≡ tVar → answer (nodeOf e) ≡ matched (varMatches (B .target) cls (getD e 1 0) r) (VarClass i)
-  var-answer h = rw h
+  its-answer : answer ≡ nodeAnswer B N i r (nodeOf e)
+  its-answer = ap (λ (l : List ℕ). nodeAnswer B N i r (nodeOf l)) (sym q)
 
-  pub var-classes : getD e 0 0 ≡ tVar → classes (nodeOf e) ≡ set cls r 1
-  var-classes h = rw h
+  its-classes : classes ≡ nodeClasses B (N .classes) r (nodeOf e)
+  its-classes = ap (λ (l : List ℕ). nodeClasses B (N .classes) r (nodeOf l)) (sym q)
 
-  pub const-answer : getD e 0 0 ≡ tConst → answer (nodeOf e) ≡ matched (sameConst (B .ebits) (rowAt Source (B .source) i) (B .tbits) (rowAt Target (B .target) r)) (ConstMismatch i)
-  const-answer h = rw h
+  pub var-answer : getD e 0 0 ≡ tVar → answer ≡ matched (varMatches (B .target .rows) (N .classes) (getD e 1 0) r) (VarClass i)
+  var-answer h = its-answer ∙ rw h
 
-  pub const-classes : getD e 0 0 ≡ tConst → classes (nodeOf e) ≡ cls
-  const-classes h = rw h
+  pub var-classes : getD e 0 0 ≡ tVar → classes ≡ set (N .classes) r 1
+  var-classes h = its-classes ∙ rw h
+
+  pub const-answer : getD e 0 0 ≡ tConst → answer ≡ matched (sameConst (B .source .bits) e (B .target .bits) (rowAt Target (B .target .rows) r)) (ConstMismatch i)
+  const-answer h =
+      its-answer ∙ rw h (ap (λ (l : List ℕ). matched (sameConst (B .source .bits) l (B .target .bits) (rowAt Target (B .target .rows) r)) (ConstMismatch i)) (sym q))
+
+  pub const-classes : getD e 0 0 ≡ tConst → classes ≡ N .classes
+  const-classes h = its-classes ∙ rw h
 
   pub select-answer : getD e 0 0 ≡ tSelect
-      → answer (nodeOf e) ≡ matched (endGood (B .map) (B .reads) (B .target) ent cls (getD e 1 0) (getD e 2 0) (selectWalk B r (getD e 2 0) (getD e 3 0) (getD e 4 0))) (ChainMismatch i)
-  select-answer h = rw h
+      → answer ≡ matched (endGood (B .map) (B .reads) (B .target .rows) N (getD e 1 0) (getD e 2 0) (selectWalk B r (getD e 2 0) (getD e 3 0) (getD e 4 0))) (ChainMismatch i)
+  select-answer h = its-answer ∙ rw h
 
-  pub select-classes : getD e 0 0 ≡ tSelect → classes (nodeOf e) ≡ endClasses cls (selectWalk B r (getD e 2 0) (getD e 3 0) (getD e 4 0))
-  select-classes h = rw h
+  pub select-classes : getD e 0 0 ≡ tSelect → classes ≡ endClasses (N .classes) (selectWalk B r (getD e 2 0) (getD e 3 0) (getD e 4 0))
+  select-classes h = its-classes ∙ rw h
 
   pub call-answer : getD e 0 0 ≡ tCall
-      → answer (nodeOf e) ≡ matched (callMatches (B .eside) (B .map) (B .calls) (B .cargs) (B .target) ent cls (getD e 1 0) (getD e 2 0) (getD e 3 0) (getD e 4 0) r) (CallMismatch i)
-  call-answer h = rw h
+      → answer ≡ matched (callMatches (B .calls) (B .cargs) (B .target .rows) N (getD e 1 0) (getD e 2 0) (getD e 4 0) (mappedArg (B .map) (B .source .side) (getD e 3 0)) r) (CallMismatch i)
+  call-answer h = its-answer ∙ rw h
 
-  pub call-classes : getD e 0 0 ≡ tCall → classes (nodeOf e) ≡ set cls r 5
-  call-classes h = rw h
+  pub call-classes : getD e 0 0 ≡ tCall → classes ≡ set (N .classes) r 5
+  call-classes h = its-classes ∙ rw h
 
-  plain-node-answer : (node : Node) → Plain node → answer node ≡ matched (nodeMatches (B .map) (B .target) node r) (NodeMismatch i)
-  plain-node-answer (Un t a) p = refl
-  plain-node-answer (Bin t a b) p = refl
-  plain-node-answer (Extract h l a) p = refl
-  plain-node-answer (Extend t a n) p = refl
-  plain-node-answer (Ite c t f) p = refl
-  plain-node-answer (Var w) p = absurd p
-  plain-node-answer (Const s w) p = absurd p
-  plain-node-answer (Select a j s k) p = absurd p
-  plain-node-answer (Call f w s k) p = absurd p
-  plain-node-answer Unknown p = absurd p
+  pub plain-answer : Plain (nodeOf e) → answer ≡ matched (nodeMatches (B .map) (B .target .rows) (nodeOf e) r) (NodeMismatch i)
+  plain-answer p = its-answer ∙ ap (kindAnswer B N i r) p
 
-  plain-node-classes : (node : Node) → Plain node → classes node ≡ cls
-  plain-node-classes (Un t a) p = refl
-  plain-node-classes (Bin t a b) p = refl
-  plain-node-classes (Extract h l a) p = refl
-  plain-node-classes (Extend t a n) p = refl
-  plain-node-classes (Ite c t f) p = refl
-  plain-node-classes (Var w) p = absurd p
-  plain-node-classes (Const s w) p = absurd p
-  plain-node-classes (Select a j s k) p = absurd p
-  plain-node-classes (Call f w s k) p = absurd p
-  plain-node-classes Unknown p = absurd p
-
-  pub plain-answer : Plain (nodeOf e) → answer (nodeOf e) ≡ matched (nodeMatches (B .map) (B .target) (nodeOf e) r) (NodeMismatch i)
-  plain-answer p = plain-node-answer (nodeOf e) p
-
-  pub plain-classes : Plain (nodeOf e) → classes (nodeOf e) ≡ cls
-  plain-classes p = plain-node-classes (nodeOf e) p
+  pub plain-classes : Plain (nodeOf e) → classes ≡ N .classes
+  plain-classes p = its-classes ∙ ap (kindClasses B (N .classes) r) p
 
 -- a refusal where a match fails is no acceptance
 pub accepted-matched : (b : Bool) (a : Answer) → isAccepted a ≡ false → isAccepted (matched b a) ≡ b

@@ -6,9 +6,9 @@ ghost use lib.ListN.{length, set};
 ghost use Rattle.answers.specs.declared.Answer.{Answer};
 ghost use Rattle.answers.specs.Answer.{isAccepted};
 ghost use Rattle.images.specs.Bits.{BitsWithin, ConstsWithin};
-ghost use Rattle.lowering.specs.Lowering.{binding};
+ghost use Rattle.lowering.specs.Lowering.{sourceGraph, targetGraph, binding};
 ghost use Rattle.lowering.specs.Images.{sameConst};
-ghost use Rattle.lowering.specs.Matching.{varMatches, nodeMatches, matched, nodeAnswer, nodeClasses, rowAnswer, rowClasses};
+ghost use Rattle.lowering.specs.Matching.{noted, varMatches, nodeMatches, matched, nodeAnswer, nodeClasses, rowAnswer, rowClasses};
 ghost use Rattle.lowering.specs.Matching.{classesTo, refusedRow, allRowsAnswer, deadEntry};
 ghost use Rattle.rows.specs.declared.Graph.{Graph};
 ghost use Rattle.rows.specs.Row.{rowCount, rowAt};
@@ -102,17 +102,16 @@ fn row_corr(
     i: usize,
     r: usize,
 ) -> Answer
-    requires { ⌜ Formed (now source) (now ebits) (now eside) (now target) (now tbits) ⌝ }
+    requires { ⌜ Formed (sourceGraph (now source) (now ebits) (now eside)) (targetGraph (now target) (now tbits)) ⌝ }
     requires { ⌜ (length (now ent) ≡ rowCount Graph.Target (now target)) × (length (now cls) ≡ rowCount Graph.Target (now target)) ⌝ }
     requires { ⌜ (i < rowCount Graph.Source (now source)) × (r < rowCount Graph.Target (now target)) ⌝ }
     ensures answer { λ a. ⌜ a ≡ nodeAnswer (binding (now (source .entry)) (now (ebits .entry)) (now (eside .entry)) (now (map .entry))
-        (now (reads .entry)) (now (calls .entry)) (now (cargs .entry)) (now (target .entry)) (now (tbits .entry))) (now (ent .entry))
-        (now (cls .entry)) i r
-        (nodeOf (rowAt Graph.Source (now (source .entry)) i)) ⌝ }
-    ensures list { λ a. ⌜ now (cls .exit) ≡ cond (isAccepted a) (nodeClasses (binding (now (source .entry)) (now (ebits .entry))
-        (now (eside .entry)) (now (map .entry))
-        (now (reads .entry)) (now (calls .entry)) (now (cargs .entry)) (now (target .entry)) (now (tbits .entry))) (now (cls .entry)) r
-        (nodeOf (rowAt Graph.Source (now (source .entry)) i))) (now (cls .entry)) ⌝ }
+        (now (reads .entry)) (now (calls .entry)) (now (cargs .entry)) (now (target .entry)) (now (tbits .entry)))
+        (noted (now (cls .entry)) (now (ent .entry))) i r (nodeOf (rowAt Graph.Source (now (source .entry)) i)) ⌝ }
+    ensures list { λ a. ⌜ now (cls .exit) ≡ cond (isAccepted a) (nodeClasses
+        (binding (now (source .entry)) (now (ebits .entry)) (now (eside .entry)) (now (map .entry))
+        (now (reads .entry)) (now (calls .entry)) (now (cargs .entry)) (now (target .entry)) (now (tbits .entry)))
+        (now (cls .entry)) r (nodeOf (rowAt Graph.Source (now (source .entry)) i))) (now (cls .entry)) ⌝ }
 {
     let e = rows::row(Graph::Source, source, i);
     let t = e[0];
@@ -149,16 +148,16 @@ fn ext_step(
     cls: &mut [u64],
     i: usize,
 ) -> Answer
-    requires { ⌜ Formed (now source) (now ebits) (now eside) (now target) (now tbits) ⌝ }
+    requires { ⌜ Formed (sourceGraph (now source) (now ebits) (now eside)) (targetGraph (now target) (now tbits)) ⌝ }
     requires { ⌜ (length (now ent) ≡ rowCount Graph.Target (now target)) × (length (now cls) ≡ rowCount Graph.Target (now target)) ⌝ }
     requires { ⌜ i < rowCount Graph.Source (now source) ⌝ }
     ensures answer { λ a. ⌜ a ≡ rowAnswer (binding (now (source .entry)) (now (ebits .entry)) (now (eside .entry)) (now (map .entry))
-        (now (reads .entry)) (now (calls .entry)) (now (cargs .entry)) (now (target .entry)) (now (tbits .entry))) (now (ent .entry))
-        (now (cls .entry)) i ⌝ }
-    ensures list { λ a. ⌜ now (cls .exit) ≡ cond (isAccepted a) (rowClasses (binding (now (source .entry)) (now (ebits .entry)) (now (eside .entry))
-        (now (map .entry))
-        (now (reads .entry)) (now (calls .entry)) (now (cargs .entry)) (now (target .entry)) (now (tbits .entry))) i (now (cls .entry)))
-        (now (cls .entry)) ⌝ }
+        (now (reads .entry)) (now (calls .entry)) (now (cargs .entry)) (now (target .entry)) (now (tbits .entry)))
+        (noted (now (cls .entry)) (now (ent .entry))) i ⌝ }
+    ensures list { λ a. ⌜ now (cls .exit) ≡ cond (isAccepted a) (rowClasses
+        (binding (now (source .entry)) (now (ebits .entry)) (now (eside .entry)) (now (map .entry))
+        (now (reads .entry)) (now (calls .entry)) (now (cargs .entry)) (now (target .entry)) (now (tbits .entry)))
+        i (now (cls .entry))) (now (cls .entry)) ⌝ }
 {
     let r = images::map_at(map, i as u64);
     if r == MAX {
@@ -198,16 +197,16 @@ pub fn ext_rows(
     ent: &[u64],
     cls: &mut [u64],
 ) -> Answer
-    requires { ⌜ Formed (now source) (now ebits) (now eside) (now target) (now tbits) ⌝ }
+    requires { ⌜ Formed (sourceGraph (now source) (now ebits) (now eside)) (targetGraph (now target) (now tbits)) ⌝ }
     requires { ⌜ (length (now ent) ≡ rowCount Graph.Target (now target)) × (length (now cls) ≡ rowCount Graph.Target (now target)) ⌝ }
     ensures answer { λ a. ⌜ a ≡ allRowsAnswer (binding (now (source .entry)) (now (ebits .entry)) (now (eside .entry)) (now (map .entry))
-        (now (reads .entry)) (now (calls .entry)) (now (cargs .entry)) (now (target .entry)) (now (tbits .entry))) (now (ent .entry))
-        (now (cls .entry)) ⌝ }
+        (now (reads .entry)) (now (calls .entry)) (now (cargs .entry)) (now (target .entry)) (now (tbits .entry)))
+        (noted (now (cls .entry)) (now (ent .entry))) ⌝ }
     ensures list { λ a. ⌜ now (cls .exit) ≡ classesTo (binding (now (source .entry)) (now (ebits .entry)) (now (eside .entry)) (now (map .entry))
-        (now (reads .entry)) (now (calls .entry)) (now (cargs .entry)) (now (target .entry)) (now (tbits .entry))) (now (cls .entry))
-        (refusedRow (binding (now (source .entry)) (now (ebits .entry)) (now (eside .entry)) (now (map .entry))
-        (now (reads .entry)) (now (calls .entry)) (now (cargs .entry)) (now (target .entry)) (now (tbits .entry))) (now (ent .entry))
-        (now (cls .entry))) ⌝ }
+        (now (reads .entry)) (now (calls .entry)) (now (cargs .entry)) (now (target .entry)) (now (tbits .entry)))
+        (now (cls .entry)) (refusedRow (binding (now (source .entry)) (now (ebits .entry)) (now (eside .entry)) (now (map .entry))
+        (now (reads .entry)) (now (calls .entry)) (now (cargs .entry)) (now (target .entry)) (now (tbits .entry)))
+        (noted (now (cls .entry)) (now (ent .entry)))) ⌝ }
 {
     let n = rows::row_count(Graph::Source, source);
     let mut i = 0;

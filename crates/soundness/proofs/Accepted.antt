@@ -27,13 +27,13 @@ abbrev pub zero-interpretation : Interpretation
 zero-interpretation = record { variable = λ i. 0; array = λ a x. 0; function = λ f w vs. 0 }
 
 module _ (L : Lowering) where
-  pub zeros-fit : Assigns zeros (L .target)
+  pub zeros-fit : Assigns zeros (L .target .rows)
   zeros-fit r w h e = pow-pos w
 
-  pub zero-fits : OfKind zero-interpretation (L .source)
+  pub zero-fits : OfKind zero-interpretation (L .source .rows)
   zero-fits = record { variables-fit = λ i w h e. pow-pos w; cells-fit = λ a x. pow-pos (cellWidth a); results-fit = λ f w vs. pow-pos w }
 
-module _ (L : Lowering) (slice : length (L .target) ≤ MAX) (tests : Passed L) where
+module _ (L : Lowering) (slice : length (L .target .rows) ≤ MAX) (tests : Passed L) where
   graphs : Formed L
   graphs = formed L tests
 
@@ -53,13 +53,13 @@ module _ (L : Lowering) (slice : length (L .target) ≤ MAX) (tests : Passed L) 
       small : targetRows L ≤ MAX
       small = omega arith
 
-  pub passed-forward : (I : Interpretation) (given : ℕ → ℕ) → Assigns given (L .target) → SourceTrue L I
+  pub passed-forward : (I : Interpretation) (given : ℕ → ℕ) → Assigns given (L .target .rows) → SourceTrue L I
       → TargetTrue L (assignment L I given) × ImagesAgree L I (assignment L I given)
   passed-forward I given free (kinds, roots) =
       let fits = assignment-fits L graphs facts I given kinds free in
       ((fits, forward-roots L graphs facts I given fits roots), λ i (h, k). let w = within L tests i h k in (w, forward-agree L graphs facts I given fits i (h, w)))
 
-  pub passed-backward : (A : ℕ → ℕ) (J : Interpretation) → OfKind J (L .source) → TargetTrue L A
+  pub passed-backward : (A : ℕ → ℕ) (J : Interpretation) → OfKind J (L .source .rows) → TargetTrue L A
       → SourceTrue L (interpretation L A J) × ImagesAgree L (interpretation L A J) A
   passed-backward A J free (fits, roots) = (
     (interpretation-fits L graphs facts A fits J free, backward-roots L graphs facts A fits J roots),

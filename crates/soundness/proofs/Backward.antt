@@ -54,7 +54,7 @@ unfolding all
 sameVals-refl [] = refl
 sameVals-refl (v ∷ vs) = rw (sameVal-refl v, sameVals-refl vs)
 
-module _ (L : Lowering) (F : Formed L) (M : Matched L) (A : ℕ → ℕ) (fits : Assigns A (L .target)) (J : Interpretation) where
+module _ (L : Lowering) (F : Formed L) (M : Matched L) (A : ℕ → ℕ) (fits : Assigns A (L .target .rows)) (J : Interpretation) where
   abbrev I : Interpretation
   I = interpretation L A J
 
@@ -87,12 +87,12 @@ module _ (L : Lowering) (F : Formed L) (M : Matched L) (A : ℕ → ℕ) (fits :
   unfolding readHit
   read-hit q a x e = let (b, (c, _)) = all-true _ e in (eqb-true _ _ b, eqb-true _ _ c)
 
-  call-hits : (q f w : ℕ) (vs : List Val) → callFunction (L .calls) q ≡ f → fieldAt (L .target) (callVar (L .calls) q) 1 ≡ w → args q ≡ vs → callHit L A f w vs q ≡ true
+  call-hits : (q f w : ℕ) (vs : List Val) → callFunction (L .calls) q ≡ f → fieldAt (L .target .rows) (callVar (L .calls) q) 1 ≡ w → args q ≡ vs → callHit L A f w vs q ≡ true
   unfolding callHit all
   call-hits q f w vs e z n = rw (eq-eqb _ _ e, eq-eqb _ _ z, n, sameVals-refl vs)
 
   call-hit : (q f w : ℕ) (vs : List Val) → callHit L A f w vs q ≡ true
-      → (callFunction (L .calls) q ≡ f) × (fieldAt (L .target) (callVar (L .calls) q) 1 ≡ w) × (args q ≡ vs)
+      → (callFunction (L .calls) q ≡ f) × (fieldAt (L .target .rows) (callVar (L .calls) q) 1 ≡ w) × (args q ≡ vs)
   unfolding callHit
   call-hit q f w vs e = let (a, (b, (c, _))) = all-true _ e in (eqb-true _ _ a, eqb-true _ _ b, sameVals-true _ _ c)
 
@@ -112,20 +112,20 @@ module _ (L : Lowering) (F : Formed L) (M : Matched L) (A : ℕ → ℕ) (fits :
 
   -- two constant index rows that differ have unequal numbers
   constants : (k l : ℕ) → k < readCount (L .reads) → l < readCount (L .reads) → readArray (L .reads) k ≡ readArray (L .reads) l
-      → unequalConst (L .tbits) (rowAt Target (L .target) (readIndex (L .reads) k)) (rowAt Target (L .target) (readIndex (L .reads) l)) ≡ true
+      → unequalConst (L .target .bits) (rowAt Target (L .target .rows) (readIndex (L .reads) k)) (rowAt Target (L .target .rows) (readIndex (L .reads) l)) ≡ true
       → nat (v (readIndex (L .reads) k)) ≡ nat (v (readIndex (L .reads) l)) → ⊥
   unfolding unequalConst operate
   constants k l hk hl e u n =
       let (b, (d, _)) = all-true _ u in
       let (ck, cl) = both-const (row k) (row l) b in
       let w : getD (row k) 2 0 ≡ getD (row l) 2 0 = sym (ap wid (const k hk ck)) ∙ index-width k hk ∙ ap indexWidth e ∙ sym (index-width l hl) ∙ ap wid (const l hl cl) in
-      unequal-numbers (L .tbits) (L .tbits) (row k) (row l) (F .target-bits) (F .target-bits) b (not-true _ d) w (sym (ap nat (const k hk ck)) ∙ n ∙ ap nat (const l hl cl))
+      unequal-numbers (L .target .bits) (L .target .bits) (row k) (row l) (F .target-bits) (F .target-bits) b (not-true _ d) w (sym (ap nat (const k hk ck)) ∙ n ∙ ap nat (const l hl cl))
     where
       row : ℕ → List ℕ
-      row q = rowAt Target (L .target) (readIndex (L .reads) q)
+      row q = rowAt Target (L .target .rows) (readIndex (L .reads) q)
 
       const : (q : ℕ) → q < readCount (L .reads) → getD (row q) 0 0 ≡ tConst
-          → v (readIndex (L .reads) q) ≡ val (getD (row q) 2 0) (constNumber (L .tbits) (getD (row q) 1 0) (getD (row q) 2 0))
+          → v (readIndex (L .reads) q) ≡ val (getD (row q) 2 0) (constNumber (L .target .bits) (getD (row q) 1 0) (getD (row q) 2 0))
       const q h c =
           let (x, z, ex) = M .of-read q h .index-image in
           row-value L F A fits (readIndex (L .reads) q) _ (rw (← ex) (z .1)) (const-row (row q) c)
@@ -191,7 +191,7 @@ module _ (L : Lowering) (F : Formed L) (M : Matched L) (A : ℕ → ℕ) (fits :
         go : (vs : List Val) → args q ≡ vs → I .function f w vs ≡ A r
         go vs n =
             let p = callAt L A f w vs in
-            let width = node-var (rowAt Target (L .target) (callVar (L .calls) q)) w (rw (z .variable-is) t) .1 in
+            let width = node-var (rowAt Target (L .target .rows) (callVar (L .calls) q)) w (rw (z .variable-is) t) .1 in
             let l : p ≤ q = first-upto (callHit L A f w vs) _ q (call-hits q f w vs (z .function-is) width n) in
             let b : p < callCount (L .calls) = omega (arith, z .inside) in
             let (e, _, s) = call-hit p f w vs (first-hit (callHit L A f w vs) _ b) in
@@ -200,13 +200,13 @@ module _ (L : Lowering) (F : Formed L) (M : Matched L) (A : ℕ → ℕ) (fits :
     pub backward-agree : (i : ℕ) → Agree L F M I A fits i
     backward-agree = agree-rows L F M I A fits (λ i w k e. at-var i ∙ rw (lt-ltb _ _ (k .1))) leaf-read leaf-call
 
-    pub backward-roots : RootsTrue (sourceValue (L .source) (L .ebits) (L .eside) I) (L .eroots)
+    pub backward-roots : RootsTrue (sourceValue (L .source .rows) (L .source .bits) (L .source .side) I) (L .eroots)
     backward-roots q h =
         let (k, l, e) = M .of-root q h in
         eq-eqb _ _ (ap nat (backward-agree (getD (L .eroots) q 0) k) ∙ rw (← e) (eqb-true _ _ (true-roots q l)))
 
   -- it gives each variable, cell and result a number of its kind
-  pub interpretation-fits : OfKind J (L .source) → OfKind I (L .source)
+  pub interpretation-fits : OfKind J (L .source .rows) → OfKind I (L .source .rows)
   interpretation-fits kinds =
       record {
         variables-fit = λ i w h e. rw (at-var i) (on-var i w h e _ refl);
@@ -233,6 +233,6 @@ module _ (L : Lowering) (F : Formed L) (M : Matched L) (A : ℕ → ℕ) (fits :
           let p = callAt L A f w vs in
           let e = M .of-call p l in
           let (_, z, _) = call-hit p f w vs (first-hit (callHit L A f w vs) _ l) in
-          let y = node-var (rowAt Target (L .target) (callVar (L .calls) p)) (e .width) (e .is-var) .1 in
+          let y = node-var (rowAt Target (L .target .rows) (callVar (L .calls) p)) (e .width) (e .is-var) .1 in
           subst (λ (c : ℕ). A (callVar (L .calls) p) < 2 ^ c) (sym y ∙ z) (fits _ (e .width) (e .inside) (e .is-var))
       on-result f w vs false q = kinds .results-fit f w vs

@@ -17,17 +17,18 @@ use Rattle.lists.proofs.Choice.{no-way}
 use Rattle.lists.proofs.Tests.{all-true, agree-at}
 use Rattle.rows.specs.declared.Graph.the-variants.{Target}
 use Rattle.rows.specs.declared.Node.{Node}
-use Rattle.rows.specs.declared.Node.the-variants.{Var, Const, Un, Bin, Extract, Extend, Ite, Select, Call, Unknown}
+use Rattle.rows.specs.declared.Node.the-variants.{Var, Call}
 use Rattle.rows.specs.Row.{rowAt}
 use Rattle.rows.specs.Tags.{either}
 use Rattle.lowering.specs.declared.Walk.{Walk}
 use Rattle.lowering.specs.declared.Walk.the-variants.{RanOut, Met, Lost}
 use Rattle.lowering.specs.Images.{MAX}
-use Rattle.lowering.specs.Matching.{endGood, callMatches, varMatches, matched, nodeAnswer, rowAnswer, endClasses, nodeClasses, rowClasses}
+use Rattle.lowering.specs.Matching.{Noted, noted, mappedArg, endGood, callMatches, varMatches, matched, nodeAnswer, rowAnswer, endClasses, nodeClasses, rowClasses}
+use Rattle.lowering.specs.Matching.{Kind, var, const, core, select, call, unknown, kindOf, kindAnswer, kindClasses}
 use Rattle.lowering.specs.Lowering.{Lowering, bindingOf, targetRows}
 use Rattle.lowering.specs.Check.{classesOfTables, classes, offsets}
 use Rattle.lowering.proofs.Classes.{classes-keep-length}
-use Rattle.soundness.proofs.Facts.{S, T, m, Mapped, Formed, walkOf}
+use Rattle.soundness.proofs.Facts.{S, T, m, Mapped, walkOf}
 use Rattle.soundness.specs.Passed.{Reached, Passed}
 use Rattle.rows.proofs.Tags.{one-of}
 use Rattle.soundness.proofs.Images.{row-is}
@@ -51,17 +52,16 @@ module _ (L : Lowering) where
   usedEnd (Met r v) = targetRows L
   usedEnd Lost = targetRows L
 
+  abbrev pub usedBy : ℕ → Kind → ℕ
+  usedBy r (var w) = r
+  usedBy r const = targetRows L
+  usedBy r (core node) = targetRows L
+  usedBy r (select a j s k) = usedEnd (walkOf L j k s r)
+  usedBy r (call f w s k) = r
+  usedBy r unknown = targetRows L
+
   abbrev pub usedAt : ℕ → Node → ℕ
-  usedAt r (Var w) = r
-  usedAt r (Const s w) = targetRows L
-  usedAt r (Un t a) = targetRows L
-  usedAt r (Bin t a b) = targetRows L
-  usedAt r (Extract h l a) = targetRows L
-  usedAt r (Extend t a n) = targetRows L
-  usedAt r (Ite c t e) = targetRows L
-  usedAt r (Select a j s k) = usedEnd (walkOf L j k s r)
-  usedAt r (Call f w s k) = r
-  usedAt r Unknown = targetRows L
+  usedAt r node = usedBy r (kindOf node)
 
   abbrev pub used : ℕ → ℕ
   used i = usedAt (m L i) (S L i)
@@ -102,10 +102,12 @@ module _ (L : Lowering) where
   turn-live r c d (to-read k e x) f h = x
   turn-live r c d (to-call k e x) f h = x
 
-  -- the answer and the classes of a node at row i
+  -- what is noted before row i; the answer and the classes of a node there
+  abbrev pub notedAt : ℕ → Noted
+  notedAt i = noted (classes L i) (offsets L)
+
   abbrev pub answerAt : ℕ → Node → Answer
-  answerAt i node =
-      nodeAnswer (bindingOf L) (offsets L) (classes L i) i (m L i) node
+  answerAt i node = nodeAnswer (bindingOf L) (notedAt i) i (m L i) node
 
   abbrev pub classesAt : ℕ → Node → List ℕ
   classesAt i node = nodeClasses (bindingOf L) (classes L i) (m L i) node
@@ -115,10 +117,10 @@ module _ (L : Lowering) where
   unfolding varMatches
   var-passed i w e =
       let (a, (b, _)) = all-true _ (test-of _ (VarClass i) refl e) in
-      (row-is (rowAt Target (L .target) (m L i)) (Var w) tt a, eqb-true _ _ b)
+      (row-is (rowAt Target (L .target .rows) (m L i)) (Var w) tt a, eqb-true _ _ b)
 
   abbrev pub endOf : ℕ → ℕ → ℕ → Walk → Bool
-  endOf i a j o = endGood (L .map) (L .reads) (L .target) (offsets L) (classes L i) a j o
+  endOf i a j o = endGood (L .map) (L .reads) (L .target .rows) (notedAt i) a j o
 
   pub ran-out : (i a j r : ℕ) → endOf i a j (RanOut r) ≡ true
       → (r < targetRows L) × (kind (getD (classes L i) r 0) ≡ 2) × (getD (L .reads) (getD (offsets L) r 0 + 1) 0 ≡ a) × (getD (L .reads) (getD (offsets L) r 0 + 2) 0 ≡ m L j)
@@ -134,11 +136,11 @@ module _ (L : Lowering) where
     pub args-here : (l : ℕ) → l < k → xs l ≡ getD (L .cargs) (getD (L .calls) (getD (offsets L) r 0 + 2) 0 + l) 0
 
   pub call-passed : (i f w s k : ℕ) → isAccepted (answerAt i (Call f w s k)) ≡ true
-      → (T L (m L i) ≡ Var w) × (kind (getD (classes L i) (m L i) 0) ≡ 3) × CallHere (m L i) f k (λ l. m L (getD (L .eside) (s + l) 0))
+      → (T L (m L i) ≡ Var w) × (kind (getD (classes L i) (m L i) 0) ≡ 3) × CallHere (m L i) f k (mappedArg (L .map) (L .source .side) s)
   unfolding callMatches kind
   call-passed i f w s k e =
       let (a, (c, (_, (x, (y, (_, (z, _))))))) = all-true _ (test-of _ (CallMismatch i) refl e) in (
-        row-is (rowAt Target (L .target) (m L i)) (Var w) tt a,
+        row-is (rowAt Target (L .target .rows) (m L i)) (Var w) tt a,
         one-of (λ c. kind c ≡ 3) (getD (classes L i) (m L i) 0) 3 5 refl refl c,
         record { function-here = eqb-true _ _ x; count-here = eqb-true _ _ y; args-here = agree-at _ _ k z },
       )
@@ -156,24 +158,20 @@ module _ (L : Lowering) {N : ℕ} (E : Reached L N) where
   turn-end i a j x (Met p v) y e r = stays refl
   turn-end i a j x Lost y e r = stays refl
 
-  turn-node : (i : ℕ) → Mapped L i → (node : Node) → S L i ≡ node → isAccepted (answerAt L i node) ≡ true → (r : ℕ)
-      → Turns L r (getD (classes L i) r 0) (getD (classesAt L i node) r 0)
-  turn-node i (h, u) (Var w) n e r =
+  turn-kinds : (i : ℕ) → Mapped L i → (kind : Kind) → kindOf (S L i) ≡ kind → isAccepted (kindAnswer (bindingOf L) (notedAt L i) i (m L i) kind) ≡ true
+      → (r : ℕ) → Turns L r (getD (classes L i) r 0) (getD (kindClasses (bindingOf L) (classes L i) (m L i) kind) r 0)
+  turn-kinds i (h, u) (var w) n e r =
       set-holds (Turns L r (getD (classes L i) r 0)) (classes L i) (m L i) 1 r (rw (classes-length i) u) (stays refl)
       (λ q. to-var (rw q at (var-passed L i w e .1)) refl)
-  turn-node i x (Select a j s k) n e r =
-      turn-end i a j x (walkOf L j k s (m L i)) (ap (usedAt L (m L i)) n) (test-of _ (ChainMismatch i) refl e) r
-  turn-node i (h, u) (Call f w s k) n e r =
+  turn-kinds i x (select a j s k) n e r =
+      turn-end i a j x (walkOf L j k s (m L i)) (ap (usedBy L (m L i)) n) (test-of _ (ChainMismatch i) refl e) r
+  turn-kinds i (h, u) (call f w s k) n e r =
       let (_, c, _) = call-passed L i f w s k e in
       set-holds (Turns L r (getD (classes L i) r 0)) (classes L i) (m L i) 5 r (rw (classes-length i) u) (stays refl)
-      (λ q. to-call (rw q at c) refl (i, ((h, u), ap (usedAt L (m L i)) n ∙ q)))
-  turn-node i x (Const s w) n e r = stays refl
-  turn-node i x (Un t a) n e r = stays refl
-  turn-node i x (Bin t a b) n e r = stays refl
-  turn-node i x (Extract h l a) n e r = stays refl
-  turn-node i x (Extend t a k) n e r = stays refl
-  turn-node i x (Ite c t f) n e r = stays refl
-  turn-node i x Unknown n e r = stays refl
+      (λ q. to-call (rw q at c) refl (i, ((h, u), ap (usedBy L (m L i)) n ∙ q)))
+  turn-kinds i x const n e r = stays refl
+  turn-kinds i x (core node) n e r = stays refl
+  turn-kinds i x unknown n e r = stays refl
 
   -- how they change at any row
   pub turn : (i : ℕ) → i < N → (r : ℕ) → Turns L r (getD (classes L i) r 0) (getD (classes L (suc i)) r 0)
@@ -182,7 +180,7 @@ module _ (L : Lowering) {N : ℕ} (E : Reached L N) where
     where
       mapped : (b : Bool) → ltb (m L i) (targetRows L) ≡ b → isAccepted (cond b (answerAt L i (S L i)) (MapOutOfRange i)) ≡ true
           → Turns L r (getD (classes L i) r 0) (getD (classesAt L i (S L i)) r 0)
-      mapped true u e = turn-node i (omega (arith, E .inside), ltb-true (m L i) (targetRows L) u) (S L i) refl e r
+      mapped true u e = turn-kinds i (omega (arith, E .inside), ltb-true (m L i) (targetRows L) u) (kindOf (S L i)) refl e r
       mapped false u e = no-way (sym e)
 
       go : (b : Bool) → isAccepted (cond b Accepted (cond (ltb (m L i) (targetRows L)) (answerAt L i (S L i)) (MapOutOfRange i))) ≡ true
@@ -223,7 +221,7 @@ module _ (L : Lowering) {N : ℕ} (E : Reached L N) where
       go : kind (getD (classesOfTables L) r 0) ≡ 3 → ReadAt L r → CallAt L r
       go k (q, l, v) = let z : _≡_ {A = ℕ} 2 3 = rw (← v, class-of-read L E q l) at k in absurd (omega arith)
 
-module _ (L : Lowering) (P : Passed L) (F : Formed L) (small : targetRows L ≤ MAX) where
+module _ (L : Lowering) (P : Passed L) (small : targetRows L ≤ MAX) where
   -- a mapped row's answer is its node's
   pub mapped-passed : (i : ℕ) → Mapped L i → isAccepted (answerAt L i (S L i)) ≡ true
   unfolding rowAnswer

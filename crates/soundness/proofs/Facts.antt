@@ -1,5 +1,5 @@
 -- What acceptance says of every mapped row, entry and root, without classes: all that the two directions of the theorem use. Assumes nothing.
-use Prim.Native.Nat.{ℕ, _+_, _<_}
+use Prim.Native.Nat.{ℕ, _<_}
 use mathlib.Core.Path.{_≡_}
 use mathlib.Core.Bool.{true, false}
 use mathlib.Core.Logic.{_⊎_}
@@ -19,7 +19,7 @@ use Rattle.lowering.specs.declared.Walk.{Walk}
 use Rattle.lowering.specs.declared.Walk.the-variants.{RanOut, Met, Lost}
 use Rattle.lowering.specs.Images.{mapAt, unequalConst}
 use Rattle.lowering.specs.Tables.{readCount, readVar, readArray, readIndex, callCount, callVar, callFunction, argCount, callArg, sameFunction}
-use Rattle.lowering.specs.Matching.{walk}
+use Rattle.lowering.specs.Matching.{walk, mappedArg}
 use Rattle.lowering.specs.Roots.{congruent}
 use Rattle.lowering.specs.Lowering.{Lowering, sourceRows, targetRows}
 use Rattle.lowering.specs.Check.{widthsOfSource, widthsOfTarget}
@@ -33,10 +33,10 @@ pub data Owner : Type 0 where
 module _ (L : Lowering) where
   -- the nodes of source and target, and the map
   abbrev pub S : ℕ → Node
-  S i = nodeOf (rowAt Source (L .source) i)
+  S i = nodeOf (rowAt Source (L .source .rows) i)
 
   abbrev pub T : ℕ → Node
-  T r = nodeOf (rowAt Target (L .target) r)
+  T r = nodeOf (rowAt Target (L .target .rows) r)
 
   abbrev pub m : ℕ → ℕ
   m i = mapAt (L .map) i
@@ -50,17 +50,17 @@ module _ (L : Lowering) where
 
   -- the layer below: both graphs are well formed, the target holds core rows and bits
   pub record Formed : Type 0 where
-    pub source-formed : WellFormed Source (length (L .ebits)) (L .eside) (L .source) (widthsOfSource L)
-    pub target-formed : WellFormed Target (length (L .tbits)) [] (L .target) (widthsOfTarget L)
-    pub source-bits : (k : ℕ) → getD (L .ebits) k 0 < 2
-    pub target-bits : (k : ℕ) → getD (L .tbits) k 0 < 2
+    pub source-formed : WellFormed Source (length (L .source .bits)) (L .source .side) (L .source .rows) (widthsOfSource L)
+    pub target-formed : WellFormed Target (length (L .target .bits)) [] (L .target .rows) (widthsOfTarget L)
+    pub source-bits : (k : ℕ) → getD (L .source .bits) k 0 < 2
+    pub target-bits : (k : ℕ) → getD (L .target .bits) k 0 < 2
     pub target-core : (r : ℕ) → r < targetRows L → tagOf (T r) < 37
 
   -- a core row and its image: one operator, one list of parameters, mapped operands
   pub record SameCore (node image : Node) : Type 0 where
     pub no-var : eqb (tagOf node) tVar ≡ false
     pub same-tag : tagOf image ≡ tagOf node
-    pub same-parameters : parameters (L .tbits) image ≡ parameters (L .ebits) node
+    pub same-parameters : parameters (L .target .bits) image ≡ parameters (L .source .bits) node
     pub mapped-operands : operands image ≡ map m (operands node)
 
   -- read entry q is that of row r, for an array and an index row y
@@ -85,7 +85,7 @@ module _ (L : Lowering) where
   Ends a j Lost = ⊥
 
   abbrev pub walkOf : ℕ → ℕ → ℕ → ℕ → Walk
-  walkOf j k s r = walk (L .source) (L .ebits) (L .eside) (L .map) (L .target) j k s r
+  walkOf j k s r = walk (L .source) (L .map) (L .target .rows) j k s r
 
   -- what is found at the image of row i, by its node
   abbrev pub Found : ℕ → Node → Type 0
@@ -97,7 +97,7 @@ module _ (L : Lowering) where
   Found i (Extend t a n) = SameCore (Extend t a n) (T (m i))
   Found i (Ite c t e) = SameCore (Ite c t e) (T (m i))
   Found i (Select a j s k) = Ends a j (walkOf j k s (m i))
-  Found i (Call f w s k) = (T (m i) ≡ Var w) × ((q : ℕ) × CallOf q (m i) f k (λ l. m (getD (L .eside) (s + l) 0)))
+  Found i (Call f w s k) = (T (m i) ≡ Var w) × ((q : ℕ) × CallOf q (m i) f k (mappedArg (L .map) (L .source .side) s))
   Found i Unknown = ⊥
 
   -- a read entry: its variable is a row of the array's cell width, its index an image of the array's index width
@@ -122,11 +122,11 @@ module _ (L : Lowering) where
   -- target row r is the congruence root of two entries
   abbrev pub ReadCong : ℕ → ℕ → ℕ → Type 0
   ReadCong k l r =
-      congruent (L .target) (λ _. readIndex (L .reads) k) (λ _. readIndex (L .reads) l) 1 (readVar (L .reads) k) (readVar (L .reads) l) r ≡ true
+      congruent (L .target .rows) (λ _. readIndex (L .reads) k) (λ _. readIndex (L .reads) l) 1 (readVar (L .reads) k) (readVar (L .reads) l) r ≡ true
 
   abbrev pub CallCong : ℕ → ℕ → ℕ → Type 0
   CallCong k l r =
-      congruent (L .target) (callArg (L .calls) (L .cargs) k) (callArg (L .calls) (L .cargs) l) (argCount (L .calls) k) (callVar (L .calls) k) (callVar (L .calls) l) r ≡ true
+      congruent (L .target .rows) (callArg (L .calls) (L .cargs) k) (callArg (L .calls) (L .cargs) l) (argCount (L .calls) k) (callVar (L .calls) k) (callVar (L .calls) l) r ≡ true
 
   -- a root that is the congruence root of some two entries of one array, of one function
   abbrev pub ReadPair : ℕ → Type 0
@@ -148,7 +148,7 @@ module _ (L : Lowering) where
     pub of-root : (q : ℕ) → q < length (L .eroots) → Mapped (getD (L .eroots) q 0) × (q < length (L .troots)) × (rootOf q ≡ m (getD (L .eroots) q 0))
     -- two unequal constant indices need no root
     pub cong-read : (k l : ℕ) → k < l → l < readCount (L .reads) → readArray (L .reads) k ≡ readArray (L .reads) l
-        → (unequalConst (L .tbits) (rowAt Target (L .target) (readIndex (L .reads) k)) (rowAt Target (L .target) (readIndex (L .reads) l)) ≡ true)
+        → (unequalConst (L .target .bits) (rowAt Target (L .target .rows) (readIndex (L .reads) k)) (rowAt Target (L .target .rows) (readIndex (L .reads) l)) ≡ true)
         ⊎ ((q : ℕ) × (q < length (L .troots)) × ReadCong k l (rootOf q))
     pub cong-call : (k l : ℕ) → k < l → l < callCount (L .calls) → sameFunction (L .calls) k l ≡ true
         → (q : ℕ) × (q < length (L .troots)) × CallCong k l (rootOf q)

@@ -12,9 +12,9 @@ use Rattle.soundness.specs.Passed.{Passed}
 pub formed : (L : Lowering) → Passed L → Formed L
 formed L P =
     record {
-      source-formed = well-formed Source (length (L .ebits)) (L .eside) (L .source) (P .source-formed);
-      target-formed = well-formed Target (length (L .tbits)) [] (L .target) (P .target-formed);
-      source-bits = clean (L .ebits) (P .source-bits);
-      target-bits = clean (L .tbits) (P .target-bits);
-      target-core = core-rows (L .target) (P .target-rows);
+      source-formed = well-formed Source (length (L .source .bits)) (L .source .side) (L .source .rows) (P .source-formed);
+      target-formed = well-formed Target (length (L .target .bits)) [] (L .target .rows) (P .target-formed);
+      source-bits = clean (L .source .bits) (P .source-bits);
+      target-bits = clean (L .target .bits) (P .target-bits);
+      target-core = core-rows (L .target .rows) (P .target-rows);
     }

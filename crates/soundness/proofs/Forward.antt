@@ -66,7 +66,7 @@ module _ (L : Lowering) (F : Formed L) (M : Matched L) (I : Interpretation) (giv
 
   at-call : (q w : ℕ) → q < callCount (L .calls) → T L (callVar (L .calls) q) ≡ Var w → A (callVar (L .calls) q) ≡ callResult L I w q
   unfolding assignment number kind
-  at-call q w h v = rw (no-read, e, lt-ltb _ _ h) (ap (λ (z : ℕ). callResult L I z q) (node-var (rowAt Target (L .target) (callVar (L .calls) q)) w v .1))
+  at-call q w h v = rw (no-read, e, lt-ltb _ _ h) (ap (λ (z : ℕ). callResult L I z q) (node-var (rowAt Target (L .target .rows) (callVar (L .calls) q)) w v .1))
     where
       no-read : ltb (readOf L (callVar (L .calls) q)) (readCount (L .reads)) ≡ false
       no-read = first-nowhere (λ p. eqb (readVar (L .reads) p) (callVar (L .calls) q)) (readCount (L .reads))
@@ -77,10 +77,10 @@ module _ (L : Lowering) (F : Formed L) (M : Matched L) (I : Interpretation) (giv
           (λ p l t. ap number (M .one-owner (by-call p) (by-call q) (callVar (L .calls) q) (l, eqb-true _ _ t) (h, refl)))
 
   -- an origin of r is a variable with image r
-  is-origin : (r i : ℕ) → isOrigin L r i ≡ true → (S L i ≡ Var (getD (rowAt Source (L .source) i) 1 0)) × (m L i ≡ r)
+  is-origin : (r i : ℕ) → isOrigin L r i ≡ true → (S L i ≡ Var (getD (rowAt Source (L .source .rows) i) 1 0)) × (m L i ≡ r)
   is-origin r i e =
-      let (a, (b, _)) = all-true (eqb (getD (rowAt Source (L .source) i) 0 0) tVar ∷ eqb (mapAt (L .map) i) r ∷ []) e in
-      (var-row (rowAt Source (L .source) i) (eqb-true _ _ a), eqb-true _ _ b)
+      let (a, (b, _)) = all-true (eqb (getD (rowAt Source (L .source .rows) i) 0 0) tVar ∷ eqb (mapAt (L .map) i) r ∷ []) e in
+      (var-row (rowAt Source (L .source .rows) i) (eqb-true _ _ a), eqb-true _ _ b)
 
   at-var : (i w : ℕ) → Mapped L i → S L i ≡ Var w → A (m L i) ≡ I .variable i
   unfolding assignment number kind all
@@ -99,11 +99,11 @@ module _ (L : Lowering) (F : Formed L) (M : Matched L) (I : Interpretation) (giv
 
       e : varOrigin L (m L i) ≡ i
       e = first-only (isOrigin L (m L i)) (sourceRows L) i (k .0)
-          (rw (node-var (rowAt Source (L .source) i) w v .0, eq-eqb (m L i) (m L i) refl))
+          (rw (node-var (rowAt Source (L .source .rows) i) w v .0, eq-eqb (m L i) (m L i) refl))
           (λ j l t. let (a, b) = is-origin (m L i) j t in ap number (M .one-owner (by-var j) (by-var i) (m L i) ((l, rw b (k .1)), (_, a), b) owns))
 
   -- it gives each variable a number of its width
-  pub assignment-fits : OfKind I (L .source) → Assigns given (L .target) → Assigns A (L .target)
+  pub assignment-fits : OfKind I (L .source .rows) → Assigns given (L .target .rows) → Assigns A (L .target .rows)
   unfolding assignment readCell callResult
   assignment-fits kinds fits r w h v = go _ refl _ refl _ refl
     where
@@ -112,20 +112,20 @@ module _ (L : Lowering) (F : Formed L) (M : Matched L) (I : Interpretation) (giv
 
       go : (b : Bool) → ltb (readOf L r) (readCount (L .reads)) ≡ b → (c : Bool) → ltb (callOf L r) (callCount (L .calls)) ≡ c
           → (d : Bool) → ltb (varOrigin L r) (sourceRows L) ≡ d
-          → cond b (readCell L I (readOf L r)) (cond c (callResult L I (fieldAt (L .target) r 1) (callOf L r)) (cond d (I .variable (varOrigin L r)) (given r))) < 2 ^ w
+          → cond b (readCell L I (readOf L r)) (cond c (callResult L I (fieldAt (L .target .rows) r 1) (callOf L r)) (cond d (I .variable (varOrigin L r)) (given r))) < 2 ^ w
       go true eb c ec d ed =
           let l = ltb-true _ _ eb in
           let e : readVar (L .reads) (readOf L r) ≡ r = eqb-true _ _ (first-hit (λ q. eqb (readVar (L .reads) q) r) _ l) in
           subst (λ (z : ℕ). readCell L I (readOf L r) < 2 ^ z) (of-width _ (rw e at (M .of-read (readOf L r) l .is-var))) (kinds .cells-fit (readArray (L .reads) (readOf L r)) _)
-      go false eb true ec d ed = rw (node-var (rowAt Target (L .target) r) w v .1) (kinds .results-fit _ w _)
+      go false eb true ec d ed = rw (node-var (rowAt Target (L .target .rows) r) w v .1) (kinds .results-fit _ w _)
       go false eb false ec true ed =
           let l = ltb-true _ _ ed in
           let (e, k) = is-origin r (varOrigin L r) (first-hit (isOrigin L r) _ l) in
-          let t : T L (m L (varOrigin L r)) ≡ Var (getD (rowAt Source (L .source) (varOrigin L r)) 1 0) = of-var L M (varOrigin L r) _ (l, rw k h) e in
+          let t : T L (m L (varOrigin L r)) ≡ Var (getD (rowAt Source (L .source .rows) (varOrigin L r)) 1 0) = of-var L M (varOrigin L r) _ (l, rw k h) e in
           subst (λ (z : ℕ). I .variable (varOrigin L r) < 2 ^ z) (of-width _ (rw k at t)) (kinds .variables-fit (varOrigin L r) _ l e)
       go false eb false ec false ed = fits r w h v
 
-  module _ (fits : Assigns A (L .target)) where
+  module _ (fits : Assigns A (L .target .rows)) where
     -- the source row that an image stands for has its value, where all rows up to a mapped row agree
     origin-value : (x y : ℕ) → Mapped L x → y ≡ m L x → ((j : ℕ) → j ≤ x → Agree L F M I A fits j) → originValue L I y ≡ tv L F A fits y
     origin-value x y k e ih =
@@ -182,7 +182,7 @@ module _ (L : Lowering) (F : Formed L) (M : Matched L) (I : Interpretation) (giv
         (tabulate-same _ _ (argCount (L .calls) q) (λ l u. let (x, k, ex) = e .args-image l u in origin-value x (callArg (L .calls) (L .cargs) q l) k (sym ex) (λ j b. forward-agree j))))
 
     -- the target's roots: images of true roots, and congruence roots
-    pub forward-roots : RootsTrue (sourceValue (L .source) (L .ebits) (L .eside) I) (L .eroots) → RootsTrue (tv L F A fits) (L .troots)
+    pub forward-roots : RootsTrue (sourceValue (L .source .rows) (L .source .bits) (L .source .side) I) (L .eroots) → RootsTrue (tv L F A fits) (L .troots)
     forward-roots true-roots q h = eq-eqb _ _ (⊎-elim image (⊎-elim reads calls) (M .only q h))
       where
         image : q < length (L .eroots) → nat (tv L F A fits (rootOf L q)) ≡ 1

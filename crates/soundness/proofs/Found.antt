@@ -33,19 +33,19 @@ use Rattle.soundness.proofs.Classes.{test-of, answerAt, endOf, var-pass
 
 module _ (L : Lowering) (P : Passed L) (F : Formed L) (small : targetRows L ≤ MAX) where
   -- a core row: the equations of its mapped node hold by themselves
-  core-found : (i : ℕ) (node : Node) → S L i ≡ node → nodeMatches (L .map) (L .target) node (m L i) ≡ true → (TagGood node → eqb (tagOf node) tVar ≡ false)
-      → tagOf (mapNode (L .map) node) ≡ tagOf node → parameters (L .tbits) (mapNode (L .map) node) ≡ parameters (L .ebits) node
+  core-found : (i : ℕ) (node : Node) → S L i ≡ node → nodeMatches (L .map) (L .target .rows) node (m L i) ≡ true → (TagGood node → eqb (tagOf node) tVar ≡ false)
+      → tagOf (mapNode (L .map) node) ≡ tagOf node → parameters (L .target .bits) (mapNode (L .map) node) ≡ parameters (L .source .bits) node
       → operands (mapNode (L .map) node) ≡ map (m L) (operands node) → SameCore L node (T L (m L i))
   unfolding nodeMatches
   core-found i node n e v t p o =
-      let g : TagGood node = subst TagGood n (node-good (rowAt Source (L .source) i)) in
-      let q : T L (m L i) ≡ mapNode (L .map) node = row-is (rowAt Target (L .target) (m L i)) (mapNode (L .map) node) (map-good (L .map) node g) e in
-      record { no-var = v g; same-tag = ap tagOf q ∙ t; same-parameters = ap (parameters (L .tbits)) q ∙ p; mapped-operands = ap operands q ∙ o }
+      let g : TagGood node = subst TagGood n (node-good (rowAt Source (L .source .rows) i)) in
+      let q : T L (m L i) ≡ mapNode (L .map) node = row-is (rowAt Target (L .target .rows) (m L i)) (mapNode (L .map) node) (map-good (L .map) node g) e in
+      record { no-var = v g; same-tag = ap tagOf q ∙ t; same-parameters = ap (parameters (L .target .bits)) q ∙ p; mapped-operands = ap operands q ∙ o }
 
   const-found : (i s w : ℕ) → S L i ≡ Const s w → isAccepted (answerAt L i (Const s w)) ≡ true → SameCore L (Const s w) (T L (m L i))
   const-found i s w n e =
-      let (_, y, z) = same-const (L .ebits) (L .tbits) (rowAt Source (L .source) i) (rowAt Target (L .target) (m L i)) (test-of _ (ConstMismatch i) refl e) in
-      record { no-var = refl; same-tag = ap tagOf y; same-parameters = sym z ∙ ap (parameters (L .ebits)) n; mapped-operands = ap operands y }
+      let (_, y, z) = same-const (L .source .bits) (L .target .bits) (rowAt Source (L .source .rows) i) (rowAt Target (L .target .rows) (m L i)) (test-of _ (ConstMismatch i) refl e) in
+      record { no-var = refl; same-tag = ap tagOf y; same-parameters = sym z ∙ ap (parameters (L .source .bits)) n; mapped-operands = ap operands y }
 
   -- a walk that ran out is at the variable of the entry of that array and index
   end-found : (i a j : ℕ) → i < sourceRows L → (o : Walk) → endOf L i a j o ≡ true → Ends L a j o
@@ -91,4 +91,4 @@ module _ (L : Lowering) (P : Passed L) (F : Formed L) (small : targetRows L ≤ 
   found i x Unknown n e = no-way (sym e)
 
   pub of-row : (i : ℕ) → Mapped L i → Found L i (S L i)
-  of-row i x = found i x (S L i) refl (mapped-passed L P F small i x)
+  of-row i x = found i x (S L i) refl (mapped-passed L P small i x)

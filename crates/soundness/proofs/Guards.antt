@@ -27,7 +27,7 @@ use Rattle.soundness.specs.Guards.{endBare, callBare}
 use Rattle.soundness.proofs.Facts.{m}
 use Rattle.rows.proofs.Tags.{one-of}
 use Rattle.soundness.proofs.Tables.{ReadAt, CallAt, read-whole, call-whole, offset-of-read, offset-of-call}
-use Rattle.soundness.proofs.Classes.{kind, read-at, call-at}
+use Rattle.soundness.proofs.Classes.{notedAt, kind, read-at, call-at}
 
 -- a test that follows from those before it can be left out
 skip : (before : List Bool) (g : Bool) (more : List Bool) → (all before ≡ true → g ≡ true) → all (before ++ (g ∷ more)) ≡ all (before ++ more)
@@ -62,7 +62,7 @@ module _ (L : Lowering) {n : ℕ} (E : Reached L n) where
 
   -- so the rules give the same without the guards
   pub end-same : (a j : ℕ) (o : Walk)
-      → endGood (L .map) (L .reads) (L .target) (offsets L) (classes L n) a j o ≡ endBare (L .map) (L .reads) (L .target) (offsets L) (classes L n) a j o
+      → endGood (L .map) (L .reads) (L .target .rows) (notedAt L n) a j o ≡ endBare (L .map) (L .reads) (L .target .rows) (notedAt L n) a j o
   unfolding endGood endBare
   end-same a j (RanOut r) =
       skip (ltb r (targetRows L) ∷ either (getD (classes L n) r 0) 2 4 ∷ []) (leb (getD (offsets L) r 0 + 3) (length (L .reads)))
@@ -71,12 +71,12 @@ module _ (L : Lowering) {n : ℕ} (E : Reached L n) where
   end-same a j (Met r v) = refl
   end-same a j Lost = refl
 
-  module _ (f w s k r : ℕ) where
+  module _ (f w k : ℕ) (xs : ℕ → ℕ) (r : ℕ) where
     abbrev o : ℕ
     o = getD (offsets L) r 0
 
     abbrev image : Bool
-    image = rowIs (rowAt Target (L .target) r) (Var w)
+    image = rowIs (rowAt Target (L .target .rows) r) (Var w)
 
     abbrev class : Bool
     class = either (getD (classes L n) r 0) 3 5
@@ -88,11 +88,11 @@ module _ (L : Lowering) {n : ℕ} (E : Reached L n) where
     count = eqb (getD (L .calls) (o + 3) 0) k
 
     abbrev args : Bool
-    args = agree (λ l. m L (getD (L .eside) (s + l) 0)) (λ l. getD (L .cargs) (getD (L .calls) (o + 2) 0 + l) 0) k
+    args = agree xs (λ l. getD (L .cargs) (getD (L .calls) (o + 2) 0 + l) 0) k
 
     pub call-same : r < targetRows L
-        → callMatches (L .eside) (L .map) (L .calls) (L .cargs) (L .target) (offsets L) (classes L n) f w s k r
-        ≡ callBare (L .eside) (L .map) (L .calls) (L .cargs) (L .target) (offsets L) (classes L n) f w s k r
+        → callMatches (L .calls) (L .cargs) (L .target .rows) (notedAt L n) f w k xs r
+        ≡ callBare (L .calls) (L .cargs) (L .target .rows) (notedAt L n) f w k xs r
     unfolding callMatches callBare
     call-same u =
         skip (image ∷ class ∷ leb (o + 4) (length (L .calls)) ∷ function ∷ count ∷ []) (leb (getD (L .calls) (o + 2) 0 + k) (length (L .cargs))) (args ∷ [])
@@ -113,8 +113,8 @@ reaches L E i h =
 
 -- at each of these rows both rules say the same with and without their guards
 pub guards-idle : (L : Lowering) → Reached L 0 → (i : ℕ) → i ≤ mismatch L
-    → ((a j : ℕ) (o : Walk) → endGood (L .map) (L .reads) (L .target) (offsets L) (classes L i) a j o
-    ≡ endBare (L .map) (L .reads) (L .target) (offsets L) (classes L i) a j o)
-    × ((f w s k r : ℕ) → r < targetRows L → callMatches (L .eside) (L .map) (L .calls) (L .cargs) (L .target) (offsets L) (classes L i) f w s k r
-    ≡ callBare (L .eside) (L .map) (L .calls) (L .cargs) (L .target) (offsets L) (classes L i) f w s k r)
+    → ((a j : ℕ) (o : Walk) → endGood (L .map) (L .reads) (L .target .rows) (notedAt L i) a j o
+    ≡ endBare (L .map) (L .reads) (L .target .rows) (notedAt L i) a j o)
+    × ((f w k : ℕ) (xs : ℕ → ℕ) (r : ℕ) → r < targetRows L → callMatches (L .calls) (L .cargs) (L .target .rows) (notedAt L i) f w k xs r
+    ≡ callBare (L .calls) (L .cargs) (L .target .rows) (notedAt L i) f w k xs r)
 guards-idle L E i h = (end-same L (reaches L E i h), call-same L (reaches L E i h))

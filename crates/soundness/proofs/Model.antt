@@ -63,14 +63,14 @@ widthOf (Select a j s k) = 0
 widthOf (Call f w s k) = 0
 widthOf Unknown = 0
 
-numbers-fit : Assigns numbers (two-reads .target)
+numbers-fit : Assigns numbers (two-reads .target .rows)
 numbers-fit zero w h e = pow-pos w
 numbers-fit (suc zero) w h e = subst (λ (v : ℕ). 1 < 2 ^ v) (ap widthOf e) (omega arith)
 numbers-fit (suc (suc zero)) w h e = pow-pos w
 numbers-fit (suc (suc (suc zero))) w h e = subst (λ (v : ℕ). 1 < 2 ^ v) (ap widthOf e) (omega arith)
 numbers-fit (suc (suc (suc (suc r)))) w h e = pow-pos w
 
-roots-true : RootsTrue (value (two-reads .tbits) numbers (two-reads .target)) (two-reads .troots)
+roots-true : RootsTrue (value (two-reads .target .bits) numbers (two-reads .target .rows)) (two-reads .troots)
 unfolding build operate ofBits
 roots-true zero h = refl
 roots-true (suc zero) h = refl
@@ -90,7 +90,7 @@ pub source-satisfiable : SourceIsSatisfiable two-reads
 source-satisfiable = (found, source-true .0, source-true .1)
 
 -- and these are its rows: the indices, the bytes that the array holds there, and the root
-pub source-numbers : sourceValues (two-reads .source) (two-reads .ebits) (two-reads .eside) found 5
+pub source-numbers : sourceValues (two-reads .source .rows) (two-reads .source .bits) (two-reads .source .side) found 5
     ≡ val 32 0 ∷ val 32 1 ∷ val 8 0 ∷ val 8 1 ∷ val 1 1 ∷ []
 unfolding build operate stored interpretation readHit first all
 source-numbers = refl

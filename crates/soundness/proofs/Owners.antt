@@ -44,7 +44,7 @@ module _ (L : Lowering) where
 module _ (L : Lowering) (P : Passed L) (F : Formed L) (small : targetRows L ≤ MAX) where
   -- a mapped variable's image is free before its row and in class 1 after it
   var-free : (i w : ℕ) → Mapped L i → S L i ≡ Var w → getD (classes L i) (m L i) 0 ≡ 0
-  var-free i w x e = var-passed L i w (subst (λ (n : Node). isAccepted (answerAt L i n) ≡ true) e (mapped-passed L P F small i x)) .1
+  var-free i w x e = var-passed L i w (subst (λ (n : Node). isAccepted (answerAt L i n) ≡ true) e (mapped-passed L P small i x)) .1
 
   var-after : (i w : ℕ) → Mapped L i → S L i ≡ Var w → getD (classes L (suc i)) (m L i) 0 ≡ 1
   unfolding trace rowClasses
@@ -112,13 +112,13 @@ module _ (L : Lowering) (P : Passed L) (F : Formed L) (small : targetRows L ≤ 
   use-owner i r u (x, e) = go (S L i) refl (of-row L P F small i x) e (F .source-formed i (x .0))
     where
       go : (node : Node) → S L i ≡ node → Found L i node → usedAt L (m L i) node ≡ r
-          → RowFormed (length (L .ebits)) (L .eside) (λ a. getD (widthsOfSource L) a 0) i node → OwnedBy L i r
+          → RowFormed (length (L .source .bits)) (L .source .side) (λ a. getD (widthsOfSource L) a 0) i node → OwnedBy L i r
       go (Var w) n f e g = (by-var i, (x, (w, n), e), refl)
       go (Select a j s k) n f e g = end-owner i a j r (g .earlier .0) u (walkOf L j k s (m L i)) f e
       go (Call f w s k) n (t, (q, c)) e g = (
         by-call q,
         (c .inside, c .variable-is ∙ e),
-        λ l h. let b : l < k = rw (c .count-is) at h in (getD (L .eside) (s + l) 0, g .follows .1 l b .arg-earlier, sym (c .args-are l b)),
+        λ l h. let b : l < k = rw (c .count-is) at h in (getD (L .source .side) (s + l) 0, g .follows .1 l b .arg-earlier, sym (c .args-are l b)),
       )
       go (Const s w) n f e g = absurd (omega arith)
       go (Un t a) n f e g = absurd (omega arith)

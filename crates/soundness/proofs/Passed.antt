@@ -1,46 +1,23 @@
 -- An accepted Check has passed each of its tests. The tests of each named list are taken apart in its order. Assumes nothing.
 use Prim.Native.Nat.{ℕ}
-use mathlib.Core.Path.{_≡_, refl, sym, _∙_}
-use mathlib.Core.Bool.{Bool, true, false, cond}
-use mathlib.Core.List.{List, [], _∷_, _++_}
+use mathlib.Core.Path.{refl}
+use mathlib.Core.List.{List, _++_}
 use native.Mathlib.Omega.{arith}
 use borrow.Author.Tests.{eqb-true, ltb-false, not-false}
 use lib.ListN.{length}
 use Rattle.answers.specs.declared.Answer.{Answer}
-use Rattle.answers.specs.Answer.{isAccepted}
-use Rattle.lists.proofs.Choice.{no-way}
 use Rattle.lowering.specs.Lowering.{Lowering, sourceRows}
-use Rattle.lowering.specs.Check.{sourceIll, targetIll, answerOf, firstRefusal, countAnswers, graphAnswers, matchAnswers}
-use Rattle.lowering.proofs.Inversion.{not-refused, all-fail, all-pass, first-refused}
+use Rattle.lowering.specs.Check.{sourceIll, targetIll, answerOf, countAnswers, graphAnswers, matchAnswers}
+use Rattle.lowering.proofs.Inversion.{Each, each, each-append, not-refused, all-fail, all-pass, first-refused}
 use Rattle.soundness.specs.Sound.{Accepts}
 use Rattle.soundness.specs.Passed.{Passed}
-
--- each answer of a list accepts
-abbrev Each : List Answer → Type 0
-Each [] = Unit {0}
-Each (a ∷ more) = (isAccepted a ≡ true) × Each more
-
-each : (l : List Answer) → isAccepted (firstRefusal l) ≡ true → Each l
-unfolding firstRefusal
-each [] e = tt
-each (a ∷ more) e = go _ refl e (each more)
-  where
-    go : (b : Bool) → isAccepted a ≡ b → isAccepted (cond b (firstRefusal more) a) ≡ true → (isAccepted (firstRefusal more) ≡ true → Each more)
-        → (isAccepted a ≡ true) × Each more
-    go true q f r = (q, r f)
-    go false q f r = no-way (sym f ∙ q)
-
--- two lists, one after the other
-each-append : (xs ys : List Answer) → Each (xs ++ ys) → Each xs × Each ys
-each-append [] ys e = (tt, e)
-each-append (a ∷ xs) ys (x, e) = let (p, q) = each-append xs ys e in ((x, p), q)
 
 module _ (L : Lowering) (ws0 ws1 cls ent : List ℕ) (accepts : Accepts L ws0 ws1 cls ent) where
   abbrev counts : List Answer
   counts = countAnswers (L .source) (L .target) (length ws0) (length ws1) (length cls) (length ent)
 
   abbrev graphs : List Answer
-  graphs = graphAnswers (L .source) (L .ebits) (L .target) (L .tbits) (sourceIll L) (targetIll L)
+  graphs = graphAnswers (L .source) (L .target) (sourceIll (L .source)) (targetIll (L .target))
 
   later : Each (graphs ++ matchAnswers L)
   later = each-append counts (graphs ++ matchAnswers L) (each _ accepts) .1

@@ -115,14 +115,14 @@ module _ (L : Lowering) (F : Formed L) (M : Matched L) where
         covered-node L i (m L i) (T L (m L i)) refl (rw (c .same-tag) (c .no-var)) (rw (c .mapped-operands) all)
 
     -- one level of a walk, where the rest is covered
-    level-reached : (p j v r : ℕ) → p < i → j < i → v < i → r < targetRows L → isLevel (L .target) (m L p) (m L j) (m L v) r ≡ true
-        → (fieldAt (L .target) r 3 < targetRows L → Covered L i (fieldAt (L .target) r 3)) → Covered L i r
+    level-reached : (p j v r : ℕ) → p < i → j < i → v < i → r < targetRows L → isLevel (L .target .rows) (m L p) (m L j) (m L v) r ≡ true
+        → (fieldAt (L .target .rows) r 3 < targetRows L → Covered L i (fieldAt (L .target .rows) r 3)) → Covered L i r
     level-reached p j v r lp lj lv h e rest =
-        let (_, er, te) = ite-row (L .target) (m L p) (m L j) (m L v) r e in
-        let y = fieldAt (L .target) r 1 in
-        let z = fieldAt (L .target) r 3 in
+        let (_, er, te) = ite-row (L .target .rows) (m L p) (m L j) (m L v) r e in
+        let y = fieldAt (L .target .rows) r 1 in
+        let z = fieldAt (L .target .rows) r 3 in
         let fr = target-earlier r (Ite y (m L v) z) h er in
-        let (hy, ey) = eq-row (L .target) (m L p) (m L j) y te in
+        let (hy, ey) = eq-row (L .target .rows) (m L p) (m L j) y te in
         let fy = target-earlier y (Bin tEq (m L p) (m L j)) hy ey in
         let cp = earlier p lp (omega (arith, fy .0)) in
         let cj = earlier j lj (omega (arith, fy .1 .0)) in
@@ -130,35 +130,35 @@ module _ (L : Lowering) (F : Formed L) (M : Matched L) where
         covered-node L i r (Ite y (m L v) z) er refl (test, (earlier v lv (omega (arith, fr .1 .0)), (rest (omega (arith, fr .1 .1 .0)), tt)))
 
     -- the walk along a Select's pairs, from target row r on
-    walk-reached : (a j : ℕ) → j < i → (k s r : ℕ) → Pairs (indexWidth a) (cellWidth a) (λ x. getD (widthsOfSource L) x 0) i (L .eside) k s
+    walk-reached : (a j : ℕ) → j < i → (k s r : ℕ) → Pairs (indexWidth a) (cellWidth a) (λ x. getD (widthsOfSource L) x 0) i (L .source .side) k s
         → r < targetRows L → Ends L a j (walkOf L j k s r) → used L i ≡ usedEnd L (walkOf L j k s r) → Covered L i r
     unfolding walk
     walk-reached a j lj zero s r p h (q, z) e = covered-var L i r _ (rw (z .variable-is) at (M .of-read q (z .inside) .is-var)) (at-row, e)
     walk-reached a j lj (suc k) s r (lp, wp, lv, wv, rest) h t e =
-        go (λ z h u n. walk-reached a j lj k (s + 2) z rest h u n) (bothConst sp sj) (sameConst (L .ebits) sp (L .ebits) sj) _ refl t e
+        go (λ z h u n. walk-reached a j lj k (s + 2) z rest h u n) (bothConst sp sj) (sameConst (L .source .bits) sp (L .source .bits) sj) _ refl t e
       where
         sp : List ℕ
-        sp = rowAt Source (L .source) (getD (L .eside) s 0)
+        sp = rowAt Source (L .source .rows) (getD (L .source .side) s 0)
 
         sj : List ℕ
-        sj = rowAt Source (L .source) j
+        sj = rowAt Source (L .source .rows) j
 
         v : ℕ
-        v = getD (L .eside) (s + 1) 0
+        v = getD (L .source .side) (s + 1) 0
 
         next : ℕ → Walk
         next z = walkOf L j k (s + 2) z
 
         go : ((z : ℕ) → z < targetRows L → Ends L a j (next z) → used L i ≡ usedEnd L (next z) → Covered L i z)
-            → (b c d : Bool) → isLevel (L .target) (m L (getD (L .eside) s 0)) (m L j) (m L v) r ≡ d
-            → Ends L a j (cond b (cond c (Met r v) (next r)) (cond d (next (fieldAt (L .target) r 3)) Lost))
-            → used L i ≡ usedEnd L (cond b (cond c (Met r v) (next r)) (cond d (next (fieldAt (L .target) r 3)) Lost)) → Covered L i r
+            → (b c d : Bool) → isLevel (L .target .rows) (m L (getD (L .source .side) s 0)) (m L j) (m L v) r ≡ d
+            → Ends L a j (cond b (cond c (Met r v) (next r)) (cond d (next (fieldAt (L .target .rows) r 3)) Lost))
+            → used L i ≡ usedEnd L (cond b (cond c (Met r v) (next r)) (cond d (next (fieldAt (L .target .rows) r 3)) Lost)) → Covered L i r
         go rec true true d ed u n = rw u (earlier v lv (rw (← u) h))
         go rec true false d ed u n = rec r h u n
-        go rec false c true ed u n = level-reached (getD (L .eside) s 0) j v r lp lj lv h ed (λ k. rec (fieldAt (L .target) r 3) k u n)
+        go rec false c true ed u n = level-reached (getD (L .source .side) s 0) j v r lp lj lv h ed (λ k. rec (fieldAt (L .target .rows) r 3) k u n)
         go rec false c false ed u n = absurd u
 
-    node-reached : (node : Node) → S L i ≡ node → RowFormed (length (L .ebits)) (L .eside) (λ a. getD (widthsOfSource L) a 0) i node → Found L i node
+    node-reached : (node : Node) → S L i ≡ node → RowFormed (length (L .source .bits)) (L .source .side) (λ a. getD (widthsOfSource L) a 0) i node → Found L i node
         → Covered L i (m L i)
     node-reached (Var w) e g f = covered-var L i (m L i) w f (at-row, ap (usedAt L (m L i)) e)
     node-reached (Const s w) e g f = core-reached (Const s w) (g .earlier) f
@@ -168,7 +168,7 @@ module _ (L : Lowering) (F : Formed L) (M : Matched L) where
     node-reached (Extend t a n) e g f = core-reached (Extend t a n) (g .earlier) f
     node-reached (Ite c t b) e g f = core-reached (Ite c t b) (g .earlier) f
     node-reached (Select a j s k) e g f =
-        let p = pairs-formed (indexWidth a) (cellWidth a) (λ x. getD (widthsOfSource L) x 0) i (L .eside) k s (g .follows .2) in
+        let p = pairs-formed (indexWidth a) (cellWidth a) (λ x. getD (widthsOfSource L) x 0) i (L .source .side) k s (g .follows .2) in
         walk-reached a j (g .earlier .0) k s (m L i) p (at-row .1) f (ap (usedAt L (m L i)) e)
     node-reached (Call f w s k) e g (t, c) = covered-var L i (m L i) w t (at-row, ap (usedAt L (m L i)) e)
     node-reached Unknown e g f = absurd f

@@ -59,10 +59,10 @@ module _ (troots : List ℕ) (test : ℕ → Pair → Bool) (needs : ℕ → ℕ
 module _ (L : Lowering) where
   -- entries of one array need a root or have unequal constant indices; entries that need a root are of one array
   abbrev pub unequal : ℕ → ℕ → Bool
-  unequal k l = unequalConst (L .tbits) (rowAt Target (L .target) (readIndex (L .reads) k)) (rowAt Target (L .target) (readIndex (L .reads) l))
+  unequal k l = unequalConst (L .target .bits) (rowAt Target (L .target .rows) (readIndex (L .reads) k)) (rowAt Target (L .target .rows) (readIndex (L .reads) l))
 
   reads-need : (k l : ℕ) → readArray (L .reads) k ≡ readArray (L .reads) l
-      → (unequal k l ≡ true) ⊎ (readsNeed (L .reads) (L .target) (L .tbits) k l ≡ true)
+      → (unequal k l ≡ true) ⊎ (readsNeed (L .reads) (L .target .rows) (L .target .bits) k l ≡ true)
   unfolding readsNeed all
   reads-need k l e = rw (eq-eqb (readArray (L .reads) k) (readArray (L .reads) l) e) (go (unequal k l))
     where
@@ -70,7 +70,7 @@ module _ (L : Lowering) where
       go true = inl refl
       go false = inr refl
 
-  one-array : (k l : ℕ) → readsNeed (L .reads) (L .target) (L .tbits) k l ≡ true → readArray (L .reads) k ≡ readArray (L .reads) l
+  one-array : (k l : ℕ) → readsNeed (L .reads) (L .target .rows) (L .target .bits) k l ≡ true → readArray (L .reads) k ≡ readArray (L .reads) l
   unfolding readsNeed
   one-array k l e = eqb-true _ _ (all-true (eqb (readArray (L .reads) k) (readArray (L .reads) l) ∷ not (unequal k l) ∷ []) e .0)
 
@@ -106,13 +106,13 @@ module _ (L : Lowering) (P : Passed L) where
       → (unequal L k l ≡ true) ⊎ ((q : ℕ) × (q < length (L .troots)) × ReadCong L k l (rootOf L q))
   cong-read k l h u e =
       ⊎-elim inl
-      (λ p. inr (has-root (L .troots) (readRoot (L .reads) (L .target)) (readsNeed (L .reads) (L .target) (L .tbits)) (length (L .eroots)) (readCount (L .reads)) (P .read-roots) k l h u p))
+      (λ p. inr (has-root (L .troots) (readRoot (L .reads) (L .target .rows)) (readsNeed (L .reads) (L .target .rows) (L .target .bits)) (length (L .eroots)) (readCount (L .reads)) (P .read-roots) k l h u p))
       (reads-need L k l e)
 
   pub cong-call : (k l : ℕ) → k < l → l < callCount (L .calls) → sameFunction (L .calls) k l ≡ true
       → (q : ℕ) × (q < length (L .troots)) × CallCong L k l (rootOf L q)
   cong-call =
-      has-root (L .troots) (callRoot (L .calls) (L .cargs) (L .target)) (sameFunction (L .calls)) (callRoots L) (callCount (L .calls)) (P .call-roots)
+      has-root (L .troots) (callRoot (L .calls) (L .cargs) (L .target .rows)) (sameFunction (L .calls)) (callRoots L) (callCount (L .calls)) (P .call-roots)
 
   pub only : (q : ℕ) → q < length (L .troots) → (q < length (L .eroots)) ⊎ (ReadPair L (rootOf L q) ⊎ CallPair L (rootOf L q))
   only q h =
@@ -120,10 +120,10 @@ module _ (L : Lowering) (P : Passed L) where
     where
       read : length (L .eroots) ≤ q → q < callRoots L → ReadPair L (rootOf L q)
       read u v =
-          let (k, l, hk, hl, e, r) = is-root (L .troots) (readRoot (L .reads) (L .target)) (readsNeed (L .reads) (L .target) (L .tbits)) (length (L .eroots)) (readCount (L .reads)) (P .read-roots) q u v in
+          let (k, l, hk, hl, e, r) = is-root (L .troots) (readRoot (L .reads) (L .target .rows)) (readsNeed (L .reads) (L .target .rows) (L .target .bits)) (length (L .eroots)) (readCount (L .reads)) (P .read-roots) q u v in
           (k, l, hk, hl, one-array L k l e, r)
 
       call : callRoots L ≤ q → CallPair L (rootOf L q)
       call v =
-          is-root (L .troots) (callRoot (L .calls) (L .cargs) (L .target)) (sameFunction (L .calls)) (callRoots L) (callCount (L .calls)) (P .call-roots) q v
+          is-root (L .troots) (callRoot (L .calls) (L .cargs) (L .target .rows)) (sameFunction (L .calls)) (callRoots L) (callCount (L .calls)) (P .call-roots) q v
           (omega (arith, h, P .roots-end))

@@ -44,17 +44,17 @@ module _ (L : Lowering) {N : ℕ} (E : Reached L N) where
   unfolding readGood
   read-facts q h =
       let (_, (a, (b, (c, (d, _))))) = all-true _ (E .reads q h) in
-      (ltb-true _ _ a, row-is (rowAt Target (L .target) (readVar (L .reads) q)) (Var (cellWidth (readArray (L .reads) q))) tt b, eqb-true _ _ c, d)
+      (ltb-true _ _ a, row-is (rowAt Target (L .target .rows) (readVar (L .reads) q)) (Var (cellWidth (readArray (L .reads) q))) tt b, eqb-true _ _ c, d)
 
   pub call-facts : (q : ℕ) → q < callCount (L .calls)
-      → (callVar (L .calls) q < targetRows L) × (T L (callVar (L .calls) q) ≡ Var (fieldAt (L .target) (callVar (L .calls) q) 1))
+      → (callVar (L .calls) q < targetRows L) × (T L (callVar (L .calls) q) ≡ Var (fieldAt (L .target .rows) (callVar (L .calls) q) 1))
       × (getD (callClasses (L .calls) (classesOfReads L) q) (callVar (L .calls) q) 0 ≡ 0)
       × ((l : ℕ) → l < argCount (L .calls) q → callArg (L .calls) (L .cargs) q l < targetRows L)
   unfolding callGood
   call-facts q h =
       let (_, (a, (b, (c, (_, (d, _)))))) = all-true _ (E .calls q h) in (
         ltb-true _ _ a,
-        var-row (rowAt Target (L .target) (callVar (L .calls) q)) (eqb-true _ _ b),
+        var-row (rowAt Target (L .target .rows) (callVar (L .calls) q)) (eqb-true _ _ b),
         eqb-true _ _ c,
         λ l u. leb-false (targetRows L) (callArg (L .calls) (L .cargs) q l) (none-at _ (argCount (L .calls) q) d l u),
       )
@@ -74,7 +74,7 @@ module _ (L : Lowering) {N : ℕ} (E : Reached L N) where
       → (readIndex (L .reads) q < targetRows L) × (getD (widthsOfTarget L) (readIndex (L .reads) q) 0 ≡ indexWidth (readArray (L .reads) q))
   read-index q h =
       let (a, b) = both _ _ (read-facts q h .3) in
-      let n : length (widthsOfTarget L) ≡ targetRows L = build-length (rowWidth Target (length (L .tbits)) [] (L .target)) (targetRows L) in
+      let n : length (widthsOfTarget L) ≡ targetRows L = build-length (rowWidth Target (length (L .target .bits)) [] (L .target .rows)) (targetRows L) in
       (rw n at (ltb-true (readIndex (L .reads) q) (length (widthsOfTarget L)) a), eqb-true _ _ b)
 
   start-length : length (noClasses L) ≡ targetRows L

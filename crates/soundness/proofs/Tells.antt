@@ -18,13 +18,14 @@ use Rattle.rows.specs.Tags.{tEq, tNot, tBoolAnd, tBoolOr}
 use Rattle.wf.specs.Promise.{RowFormed}
 use Rattle.value.specs.Val.{Val, val, wid, nat}
 use Rattle.value.specs.Operate.{operate}
-use Rattle.value.specs.Graph.{nodeValue, value, Assigns}
+use Rattle.value.specs.Graph.{nodeValue, Assigns}
 use Rattle.value.proofs.Formed.{value-formed}
 use Rattle.lowering.specs.Images.{fieldAt}
 use Rattle.lowering.specs.Matching.{isEq}
 use Rattle.lowering.specs.Roots.{allEqual, congruent}
 use Rattle.lowering.specs.Lowering.{Lowering, targetRows}
 use Rattle.lowering.specs.Check.{widthsOfTarget}
+use Rattle.soundness.specs.Sound.{valueOfTarget}
 use Rattle.soundness.proofs.Facts.{T, Formed}
 use Rattle.soundness.proofs.Images.{eq-row, and-row, or-row, not-row}
 use Rattle.meaning.proofs.Values.{target-value}
@@ -100,21 +101,21 @@ tells-if s t =
 pub val-ext : (u v : Val) → wid u ≡ wid v → nat u ≡ nat v → u ≡ v
 val-ext (val w n) (val z k) p q = rw (p, q)
 
-module _ (L : Lowering) (F : Formed L) (A : ℕ → ℕ) (assigns : Assigns A (L .target)) where
+module _ (L : Lowering) (F : Formed L) (A : ℕ → ℕ) (assigns : Assigns A (L .target .rows)) where
   -- the value and the width of a target row
   abbrev pub tv : ℕ → Val
-  tv r = value (L .tbits) A (L .target) r
+  tv r = valueOfTarget L A r
 
   abbrev pub tw : ℕ → ℕ
   tw r = getD (widthsOfTarget L) r 0
 
-  pub row-value : (r : ℕ) (node : Node) → r < targetRows L → T L r ≡ node → tv r ≡ nodeValue (L .tbits) A tv r node
-  row-value r node h e = target-value (L .tbits) [] (L .target) (widthsOfTarget L) A (F .target-formed) r h ∙ ap (nodeValue (L .tbits) A tv r) e
+  pub row-value : (r : ℕ) (node : Node) → r < targetRows L → T L r ≡ node → tv r ≡ nodeValue (L .target .bits) A tv r node
+  row-value r node h e = target-value (L .target .bits) [] (L .target .rows) (widthsOfTarget L) A (F .target-formed) r h ∙ ap (nodeValue (L .target .bits) A tv r) e
 
   pub row-width : (r : ℕ) → r < targetRows L → wid (tv r) ≡ tw r
-  row-width r h = value-formed (L .tbits) [] (L .target) (widthsOfTarget L) A (F .target-formed) (F .target-bits) (F .target-core) assigns r h .0
+  row-width r h = value-formed (L .target .bits) [] (L .target .rows) (widthsOfTarget L) A (F .target-formed) (F .target-bits) (F .target-core) assigns r h .0
 
-  pub row-formed : (r : ℕ) (node : Node) → r < targetRows L → T L r ≡ node → RowFormed (length (L .tbits)) [] tw r node
+  pub row-formed : (r : ℕ) (node : Node) → r < targetRows L → T L r ≡ node → RowFormed (length (L .target .bits)) [] tw r node
   row-formed r node h e = rw e at (F .target-formed r h)
 
   pub eq-number : (r a b : ℕ) → r < targetRows L → T L r ≡ Bin tEq a b → nat (tv r) ≡ ofBool (eqb (nat (tv a)) (nat (tv b)))
@@ -141,47 +142,47 @@ module _ (L : Lowering) (F : Formed L) (A : ℕ → ℕ) (assigns : Assigns A (L
       ap nat (row-value r (Bin tBoolOr n b) h e) ∙ rw (row-width n k, f .follows .bits refl .0, z)
 
   -- the rows under an Eq have one width
-  eq-width : (a b r : ℕ) → isEq (L .target) a b r ≡ true → wid (tv a) ≡ wid (tv b)
+  eq-width : (a b r : ℕ) → isEq (L .target .rows) a b r ≡ true → wid (tv a) ≡ wid (tv b)
   eq-width a b r t =
-      let (h, e) = eq-row (L .target) a b r t in
+      let (h, e) = eq-row (L .target .rows) a b r t in
       let f = row-formed r (Bin tEq a b) h e in
       row-width a (omega (arith, f .earlier .0)) ∙ f .follows .even (λ z. omega arith) ∙ sym (row-width b (omega (arith, f .earlier .1 .0)))
 
-  eq-tells : (a b r : ℕ) → isEq (L .target) a b r ≡ true → Tells (nat (tv r)) (tv a ≡ tv b)
+  eq-tells : (a b r : ℕ) → isEq (L .target .rows) a b r ≡ true → Tells (nat (tv r)) (tv a ≡ tv b)
   eq-tells a b r t =
-      let (h, e) = eq-row (L .target) a b r t in
+      let (h, e) = eq-row (L .target .rows) a b r t in
       tells-at (eq-number r a b h e) (λ q. val-ext _ _ (eq-width a b r t) q) (λ q. ap nat q) (tells-eqb _ _)
 
   -- xs and ys agree at 0, .., n
   abbrev pub Same : (ℕ → ℕ) → (ℕ → ℕ) → ℕ → Type 0
   Same xs ys n = (l : ℕ) → l ≤ n → tv (xs l) ≡ tv (ys l)
 
-  equal-tells : (xs ys : ℕ → ℕ) (n r : ℕ) → allEqual (L .target) xs ys n r ≡ true → Tells (nat (tv r)) (Same xs ys n)
+  equal-tells : (xs ys : ℕ → ℕ) (n r : ℕ) → allEqual (L .target .rows) xs ys n r ≡ true → Tells (nat (tv r)) (Same xs ys n)
   unfolding allEqual
   equal-tells xs ys zero r t =
       tells-at refl (λ q l h. let z : l ≡ 0 = omega arith in rw z q) (λ f. f 0 (omega arith)) (eq-tells (xs 0) (ys 0) r t)
   equal-tells xs ys (suc n) r t =
       let (h, (e, (q, (f, _)))) = all-true _ t in
-      let x = fieldAt (L .target) r 1 in
-      let y = fieldAt (L .target) r 2 in
-      tells-at (and-number r x y (ltb-true _ _ h) (and-row (L .target) r e))
+      let x = fieldAt (L .target .rows) r 1 in
+      let y = fieldAt (L .target .rows) r 2 in
+      tells-at (and-number r x y (ltb-true _ _ h) (and-row (L .target .rows) r e))
       (λ (s, z) l k. ⊎-elim (λ w. rw w z) (λ w. s l (omega arith)) (eq-or-lt-of-le k))
       (λ s. (λ l k. s l (omega arith), s (suc n) (omega arith)))
       (tells-and (equal-tells xs ys n x f) (eq-tells (xs (suc n)) (ys (suc n)) y q))
 
   -- a congruence root says: where the k rows xs and ys have one value each, u and v have one
-  pub cong-tells : (xs ys : ℕ → ℕ) (k u v r : ℕ) → congruent (L .target) xs ys k u v r ≡ true
+  pub cong-tells : (xs ys : ℕ → ℕ) (k u v r : ℕ) → congruent (L .target .rows) xs ys k u v r ≡ true
       → Tells (nat (tv r)) (((l : ℕ) → l < k → tv (xs l) ≡ tv (ys l)) → tv u ≡ tv v)
   unfolding congruent
   cong-tells xs ys k u v r t =
       let (p, (h, (e, (q, (g, (s, (a, _))))))) = all-true _ t in
-      let n = fieldAt (L .target) r 1 in
+      let n = fieldAt (L .target .rows) r 1 in
       let pos : 0 < k = ltb-true _ _ p in
-      tells-at (or-not-number r n (fieldAt (L .target) n 1) (fieldAt (L .target) r 2) (ltb-true _ _ h) (or-row (L .target) r e) (ltb-true _ _ g) (not-row (L .target) n s))
+      tells-at (or-not-number r n (fieldAt (L .target .rows) n 1) (fieldAt (L .target .rows) r 2) (ltb-true _ _ h) (or-row (L .target .rows) r e) (ltb-true _ _ g) (not-row (L .target .rows) n s))
       (λ f x. f (λ l b. x l (omega arith)))
       (λ f x. f (λ l b. x l (omega arith)))
-      (tells-if (equal-tells xs ys (k - 1) (fieldAt (L .target) n 1) a) (eq-tells u v (fieldAt (L .target) r 2) q))
+      (tells-if (equal-tells xs ys (k - 1) (fieldAt (L .target .rows) n 1) a) (eq-tells u v (fieldAt (L .target .rows) r 2) q))
 
-  pub cong-width : (xs ys : ℕ → ℕ) (k u v r : ℕ) → congruent (L .target) xs ys k u v r ≡ true → wid (tv u) ≡ wid (tv v)
+  pub cong-width : (xs ys : ℕ → ℕ) (k u v r : ℕ) → congruent (L .target .rows) xs ys k u v r ≡ true → wid (tv u) ≡ wid (tv v)
   unfolding congruent
-  cong-width xs ys k u v r t = let (_, (_, (_, (q, _)))) = all-true _ t in eq-width u v (fieldAt (L .target) r 2) q
+  cong-width xs ys k u v r t = let (_, (_, (_, (q, _)))) = all-true _ t in eq-width u v (fieldAt (L .target .rows) r 2) q

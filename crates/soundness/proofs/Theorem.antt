@@ -14,14 +14,14 @@ use Rattle.soundness.specs.Transfer.{assignment, interpretation}
 use Rattle.soundness.proofs.Passed.{passed}
 use Rattle.soundness.proofs.Accepted.{zeros, zero-interpretation, zeros-fit, zero-fits, passed-forward, passed-backward}
 
-module _ (L : Lowering) (ws0 ws1 cls ent : List ℕ) (slice : length (L .target) ≤ MAX) (accepts : Accepts L ws0 ws1 cls ent) where
+module _ (L : Lowering) (ws0 ws1 cls ent : List ℕ) (slice : length (L .target .rows) ≤ MAX) (accepts : Accepts L ws0 ws1 cls ent) where
   -- 1. Forward, along a given assignment for what the lowering leaves free: the assignment that belongs to an interpretation
-  pub forward-along : (I : Interpretation) (given : ℕ → ℕ) → Assigns given (L .target) → SourceTrue L I
+  pub forward-along : (I : Interpretation) (given : ℕ → ℕ) → Assigns given (L .target .rows) → SourceTrue L I
       → TargetTrue L (assignment L I given) × ImagesAgree L I (assignment L I given)
   forward-along = passed-forward L slice (passed L ws0 ws1 cls ent accepts)
 
   -- 2. Backward, along a given interpretation for what the lowering leaves free: the interpretation that belongs to an assignment
-  pub backward-along : (A : ℕ → ℕ) (J : Interpretation) → OfKind J (L .source) → TargetTrue L A
+  pub backward-along : (A : ℕ → ℕ) (J : Interpretation) → OfKind J (L .source .rows) → TargetTrue L A
       → SourceTrue L (interpretation L A J) × ImagesAgree L (interpretation L A J) A
   backward-along = passed-backward L slice (passed L ws0 ws1 cls ent accepts)
 

@@ -13,28 +13,29 @@ use Rattle.rows.specs.Tags.{either}
 use Rattle.lowering.specs.declared.Walk.{Walk}
 use Rattle.lowering.specs.declared.Walk.the-variants.{RanOut, Met, Lost}
 use Rattle.lowering.specs.Images.{mapAt, rowIs}
+use Rattle.lowering.specs.Matching.{Noted}
 
 -- "A walk that runs out needs a read variable of class 2 or 4 whose entry names this array and the mapped index"
-unfoldable pub endBare : List ℕ → List ℕ → List ℕ → List ℕ → List ℕ → ℕ → ℕ → Walk → Bool
-endBare map reads target ent cls a j (RanOut r) =
-    let o = getD ent r 0 in
+unfoldable pub endBare : List ℕ → List ℕ → List ℕ → Noted → ℕ → ℕ → Walk → Bool
+endBare map reads target N a j (RanOut r) =
+    let o = getD (N .offsets) r 0 in
     all
     (ltb r (rowCount Target target)
-    ∷ either (getD cls r 0) 2 4
+    ∷ either (getD (N .classes) r 0) 2 4
     ∷ eqb (getD reads (o + 1) 0) a
     ∷ eqb (getD reads (o + 2) 0) (mapAt map j)
     ∷ [])
-endBare map reads target ent cls a j (Met r v) = eqb r (mapAt map v)
-endBare map reads target ent cls a j Lost = false
+endBare map reads target N a j (Met r v) = eqb r (mapAt map v)
+endBare map reads target N a j Lost = false
 
--- "image is a Var of the call's width, class 3 or 5, its entry naming function, count and mapped arguments"
-unfoldable pub callBare : List ℕ → List ℕ → List ℕ → List ℕ → List ℕ → List ℕ → List ℕ → ℕ → ℕ → ℕ → ℕ → ℕ → Bool
-callBare eside map calls cargs target ent cls f w s k r =
-    let o = getD ent r 0 in
+-- "image is a Var of the call's width, class 3 or 5, its entry naming function, count and mapped arguments", here xs
+unfoldable pub callBare : List ℕ → List ℕ → List ℕ → Noted → ℕ → ℕ → ℕ → (ℕ → ℕ) → ℕ → Bool
+callBare calls cargs target N f w k xs r =
+    let o = getD (N .offsets) r 0 in
     all
     (rowIs (rowAt Target target r) (Var w)
-    ∷ either (getD cls r 0) 3 5
+    ∷ either (getD (N .classes) r 0) 3 5
     ∷ eqb (getD calls (o + 1) 0) f
     ∷ eqb (getD calls (o + 3) 0) k
-    ∷ agree (λ l. mapAt map (getD eside (s + l) 0)) (λ l. getD cargs (getD calls (o + 2) 0 + l) 0) k
+    ∷ agree xs (λ l. getD cargs (getD calls (o + 2) 0 + l) 0) k
     ∷ [])

@@ -16,24 +16,26 @@ use Rattle.lowering.specs.Check.{callRoots, rootsEnd}
 -- when it comes to row n: both tables (5, 6), and the rows before it (4, 7 to 11)
 pub record Reached (L : Lowering) (n : ℕ) : Type 0 where
   pub inside : n ≤ sourceRows L
-  pub reads : (k : ℕ) → k < readCount (L .reads) → readGood (L .reads) (L .target) (widthsOfTarget L) (readClasses (L .reads) (noClasses L) k) k ≡ true
-  pub calls : (k : ℕ) → k < callCount (L .calls) → callGood (L .calls) (L .cargs) (L .target) (callClasses (L .calls) (classesOfReads L) k) k ≡ true
+  pub reads : (k : ℕ) → k < readCount (L .reads)
+      → readGood (L .reads) (L .target .rows) (widthsOfTarget L) (readClasses (L .reads) (noClasses L) k) k ≡ true
+  pub calls : (k : ℕ) → k < callCount (L .calls)
+      → callGood (L .calls) (L .cargs) (L .target .rows) (callClasses (L .calls) (classesOfReads L) k) k ≡ true
   pub rows : (i : ℕ) → i < n → isAccepted (answerOf L i) ≡ true
 
 -- when it accepts: encoding (16, 17), form (1, 2), map (3), tables and rows, no dead entry (14), roots (12, 13)
 pub record Passed (L : Lowering) : Type 0 where
-  pub source-rows : sourceRows L ≤ badRow Source (L .source)
-  pub target-rows : targetRows L ≤ badRow Target (L .target)
-  pub source-bits : length (L .ebits) ≤ badBit (L .ebits)
-  pub target-bits : length (L .tbits) ≤ badBit (L .tbits)
-  pub source-formed : sourceRows L ≤ sourceIll L
-  pub target-formed : targetRows L ≤ targetIll L
+  pub source-rows : sourceRows L ≤ badRow Source (L .source .rows)
+  pub target-rows : targetRows L ≤ badRow Target (L .target .rows)
+  pub source-bits : length (L .source .bits) ≤ badBit (L .source .bits)
+  pub target-bits : length (L .target .bits) ≤ badBit (L .target .bits)
+  pub source-formed : sourceRows L ≤ sourceIll (L .source)
+  pub target-formed : targetRows L ≤ targetIll (L .target)
   pub map-length : length (L .map) ≡ sourceRows L
   pub reached : Reached L (sourceRows L)
   pub live : (r : ℕ) → r < targetRows L → either (getD (classes L (sourceRows L)) r 0) 2 3 ≡ false
   pub leading : (k : ℕ) → k < length (L .eroots) → leads (L .map) (L .eroots) (L .troots) k ≡ true
   pub read-roots : (q : ℕ) → q < length (pairsOfReads L)
-      → rootAt (L .troots) (readRoot (L .reads) (L .target)) (length (L .eroots) + q) (getD (pairsOfReads L) q (pair 0 0)) ≡ true
+      → rootAt (L .troots) (readRoot (L .reads) (L .target .rows)) (length (L .eroots) + q) (getD (pairsOfReads L) q (pair 0 0)) ≡ true
   pub call-roots : (q : ℕ) → q < length (pairsOfCalls L)
-      → rootAt (L .troots) (callRoot (L .calls) (L .cargs) (L .target)) (callRoots L + q) (getD (pairsOfCalls L) q (pair 0 0)) ≡ true
+      → rootAt (L .troots) (callRoot (L .calls) (L .cargs) (L .target .rows)) (callRoots L + q) (getD (pairsOfCalls L) q (pair 0 0)) ≡ true
   pub roots-end : length (L .troots) ≡ rootsEnd L

@@ -12,11 +12,11 @@ use Rattle.rows.specs.declared.Graph.the-variants.{Source}
 use Rattle.rows.specs.Row.{rowAt}
 use Rattle.rows.specs.Tags.{tVar}
 use Rattle.value.specs.Val.{Val, val, nat}
-use Rattle.value.specs.Graph.{value}
-use Rattle.meaning.specs.Meaning.{Interpretation, sourceValue}
+use Rattle.meaning.specs.Meaning.{Interpretation}
 use Rattle.lowering.specs.Images.{mapAt, fieldAt}
 use Rattle.lowering.specs.Tables.{readCount, readVar, readArray, readIndex, callCount, callVar, callFunction, argCount, callArg}
 use Rattle.lowering.specs.Lowering.{Lowering, sourceRows, targetRows}
+use Rattle.soundness.specs.Sound.{valueOfSource, valueOfTarget}
 
 module _ (L : Lowering) where
   -- the first source row with image r, the first variable with image r, the entries with variable r
@@ -24,7 +24,7 @@ module _ (L : Lowering) where
   origin r = first (λ i. eqb (mapAt (L .map) i) r) (sourceRows L)
 
   abbrev pub isOrigin : ℕ → ℕ → Bool
-  isOrigin r i = all (eqb (getD (rowAt Source (L .source) i) 0 0) tVar ∷ eqb (mapAt (L .map) i) r ∷ [])
+  isOrigin r i = all (eqb (getD (rowAt Source (L .source .rows) i) 0 0) tVar ∷ eqb (mapAt (L .map) i) r ∷ [])
 
   abbrev pub varOrigin : ℕ → ℕ
   varOrigin r = first (isOrigin r) (sourceRows L)
@@ -38,20 +38,21 @@ module _ (L : Lowering) where
   module _ (I : Interpretation) where
     -- the value of a source row with image r
     abbrev pub originValue : ℕ → Val
-    originValue r = sourceValue (L .source) (L .ebits) (L .eside) I (origin r)
+    originValue r = valueOfSource L I (origin r)
 
     -- what an entry reads: its array at its index, its function at its arguments
     unfoldable pub readCell : ℕ → ℕ
     readCell q = I .array (readArray (L .reads) q) (nat (originValue (readIndex (L .reads) q)))
 
     unfoldable pub callResult : ℕ → ℕ → ℕ
-    callResult w q = I .function (callFunction (L .calls) q) w (tabulate (λ l. originValue (callArg (L .calls) (L .cargs) q l)) (argCount (L .calls) q))
+    callResult w q =
+        I .function (callFunction (L .calls) q) w (tabulate (λ l. originValue (callArg (L .calls) (L .cargs) q l)) (argCount (L .calls) q))
 
     -- the assignment that belongs to an interpretation; `given` counts for rows that are nobody's image and no entry's variable
     unfoldable pub assignment : (ℕ → ℕ) → ℕ → ℕ
     assignment given r =
         cond (ltb (readOf r) (readCount (L .reads))) (readCell (readOf r))
-        (cond (ltb (callOf r) (callCount (L .calls))) (callResult (fieldAt (L .target) r 1) (callOf r))
+        (cond (ltb (callOf r) (callCount (L .calls))) (callResult (fieldAt (L .target .rows) r 1) (callOf r))
         (cond (ltb (varOrigin r) (sourceRows L)) (I .variable (varOrigin r)) (given r)))
 
 -- two lists of values are one
@@ -65,19 +66,16 @@ sameVals (u ∷ us) [] = false
 sameVals (u ∷ us) (v ∷ vs) = all (sameVal u v ∷ sameVals us vs ∷ [])
 
 module _ (L : Lowering) (A : ℕ → ℕ) where
-  abbrev pub targetValue : ℕ → Val
-  targetValue r = value (L .tbits) A (L .target) r
-
   -- an entry of array a whose index has the number x; one of function f with result width w whose arguments have these values
   unfoldable pub readHit : ℕ → ℕ → ℕ → Bool
-  readHit a x q = all (eqb (readArray (L .reads) q) a ∷ eqb (nat (targetValue (readIndex (L .reads) q))) x ∷ [])
+  readHit a x q = all (eqb (readArray (L .reads) q) a ∷ eqb (nat (valueOfTarget L A (readIndex (L .reads) q))) x ∷ [])
 
   unfoldable pub callHit : ℕ → ℕ → List Val → ℕ → Bool
   callHit f w vs q =
       all
       (eqb (callFunction (L .calls) q) f
-      ∷ eqb (fieldAt (L .target) (callVar (L .calls) q) 1) w
-      ∷ sameVals (tabulate (λ l. targetValue (callArg (L .calls) (L .cargs) q l)) (argCount (L .calls) q)) vs
+      ∷ eqb (fieldAt (L .target .rows) (callVar (L .calls) q) 1) w
+      ∷ sameVals (tabulate (λ l. valueOfTarget L A (callArg (L .calls) (L .cargs) q l)) (argCount (L .calls) q)) vs
       ∷ [])
 
   abbrev pub readAt : ℕ → ℕ → ℕ

@@ -1,4 +1,2 @@
-pub mod Counts
-pub mod Form
 pub mod RootLaws
 pub mod TableLaws

@@ -4,74 +4,86 @@ use mathlib.Core.Path.{_≡_, sym, ap, _∙_}
 use mathlib.Core.Bool.{Bool, true, false, not}
 use mathlib.Core.List.{List}
 use native.Mathlib.Omega.{arith}
-use borrow.Author.Tests.{eq-eqb, ne-eqb, eqb-true, eqb-false, lt-ltb, le-ltb}
+use borrow.Author.Tests.{eq-eqb, ne-eqb, eqb-true, eqb-false, lt-ltb, le-ltb, not-true, not-false}
 use lib.Dec.{eqb}
 use lib.ListN.{length, getD}
 use Rattle.answers.specs.declared.Answer.{Answer}
 use Rattle.answers.specs.declared.Answer.the-variants.{Accepted, RootMismatch, CongruenceMismatch}
 use Rattle.lists.proofs.First.{first-le}
 use Rattle.lowering.specs.Roots.{Pair, pair, rootAt, readPairs, callPairs, readRoot, callRoot, badLead, badCong}
+use Rattle.lowering.specs.Lowering.{TargetGraph, Entries}
 use Rattle.lowering.specs.Check.{firstRefusal, rootAnswers}
 use Rattle.pairs.specs.declared.Cong.{Cong}
 use Rattle.pairs.specs.Walk.{walked}
 use Rattle.pairs.proofs.Inside.{walked-ok, walked-next}
 
 module _ (tr : List ℕ) (test : ℕ → Pair → Bool) (from : ℕ) (ps : List Pair) where
-  -- the two parts of a walk's result
-  pub result-ok : (c : Cong) → c ≡ walked tr test from ps → c .ok ≡ eqb (badCong tr test from ps) (length ps)
-  result-ok c e = ap (λ (x : Cong). x .ok) e ∙ walked-ok tr test from ps
+  abbrev bad : ℕ
+  bad = badCong tr test from ps
 
-  pub result-next : (c : Cong) → c ≡ walked tr test from ps → c .next ≡ from + badCong tr test from ps
-  result-next c e = ap (λ (x : Cong). x .next) e ∙ walked-next tr test from ps
+  -- a walk's result: some root is missing, and where; or all stand, and what comes after them
+  module _ (c : Cong) (e : c ≡ walked tr test from ps) where
+    ok-is : c .ok ≡ eqb bad (length ps)
+    ok-is = ap (λ (x : Cong). x .ok) e ∙ walked-ok tr test from ps
 
-  not-all : eqb (badCong tr test from ps) (length ps) ≡ false → badCong tr test from ps < length ps
-  not-all e =
-      let l : badCong tr test from ps ≤ length ps = first-le (λ q. not (rootAt tr test (from + q) (getD ps q (pair 0 0)))) (length ps) in
-      let n = eqb-false (badCong tr test from ps) (length ps) e in
-      omega (arith, n)
+    next-is : c .next ≡ from + bad
+    next-is = ap (λ (x : Cong). x .next) e ∙ walked-next tr test from ps
 
-  all-stand : eqb (badCong tr test from ps) (length ps) ≡ true → length ps ≤ badCong tr test from ps
-  all-stand e = let q = eqb-true (badCong tr test from ps) (length ps) e in omega arith
+    missing : not (c .ok) ≡ true → (bad < length ps) × (c .next ≡ from + bad)
+    missing n =
+        let l : bad ≤ length ps = first-le (λ q. not (rootAt tr test (from + q) (getD ps q (pair 0 0)))) (length ps) in
+        let k = eqb-false bad (length ps) (sym ok-is ∙ not-true _ n) in
+        (omega (arith, k), next-is)
 
-module _ (er map reads calls cargs t tb tr : List ℕ) where
-  abbrev pub ps : List Pair
-  ps = readPairs reads t tb
+    standing : not (c .ok) ≡ false → (length ps ≤ bad) × (c .next ≡ from + length ps)
+    standing n =
+        let k : bad ≡ length ps = eqb-true bad (length ps) (sym ok-is ∙ not-false _ n) in
+        (omega arith, next-is ∙ ap (λ (z : ℕ). from + z) k)
 
-  abbrev pub qs : List Pair
-  qs = callPairs calls
+-- the steps of the code on plain lists: what each call has answered
+module _ (E : Entries) (T : TargetGraph) (map er tr : List ℕ) (lead : ℕ) (leading : lead ≡ badLead map er tr) where
+  abbrev ps : List Pair
+  ps = readPairs (E .reads) (T .rows) (T .bits)
 
-  abbrev pub bad0 : ℕ
-  bad0 = badCong tr (readRoot reads t) (length er) ps
-
-  abbrev pub bad1 : ℕ
-  bad1 = badCong tr (callRoot calls cargs t) (length er + length ps) qs
+  abbrev qs : List Pair
+  qs = callPairs (E .calls)
 
   abbrev answer : Answer
-  answer = firstRefusal (rootAnswers er map reads calls cargs t tb tr)
+  answer = firstRefusal (rootAnswers E T map er tr)
 
-  pub lead-12 : badLead map er tr < length er → answer ≡ RootMismatch (badLead map er tr)
+  pub lead-12 : lead < length er → RootMismatch lead ≡ answer
   unfolding firstRefusal
-  lead-12 h = rw (lt-ltb _ _ h)
+  lead-12 h = let k : badLead map er tr < length er = rw leading at h in rw (lt-ltb _ _ k, leading)
 
-  module _ (a : length er ≤ badLead map er tr) where
-    pub read-13 : eqb bad0 (length ps) ≡ false → answer ≡ CongruenceMismatch (length er + bad0)
+  module _ (h : length er ≤ lead) (a : Cong) (reads : a ≡ walked tr (readRoot (E .reads) (T .rows)) (length er) ps) where
+    led : length er ≤ badLead map er tr
+    led = rw leading at h
+
+    pub read-13 : not (a .ok) ≡ true → CongruenceMismatch (a .next) ≡ answer
     unfolding firstRefusal
-    read-13 e = rw (le-ltb _ _ a, lt-ltb _ _ (not-all tr (readRoot reads t) (length er) ps e))
+    read-13 n = let (m, e) = missing tr _ _ ps a reads n in rw (le-ltb _ _ led, lt-ltb _ _ m, e)
 
-    module _ (b : eqb bad0 (length ps) ≡ true) where
-      pub call-13 : eqb bad1 (length qs) ≡ false → answer ≡ CongruenceMismatch (length er + length ps + bad1)
+    module _ (n : not (a .ok) ≡ false) (u : Cong) (calls : u ≡ walked tr (callRoot (E .calls) (E .cargs) (T .rows)) (a .next) qs) where
+      read-roots : (length ps ≤ badCong tr (readRoot (E .reads) (T .rows)) (length er) ps) × (a .next ≡ length er + length ps)
+      read-roots = standing tr _ _ ps a reads n
+
+      from-there : u ≡ walked tr (callRoot (E .calls) (E .cargs) (T .rows)) (length er + length ps) qs
+      from-there = rw (read-roots .1) at calls
+
+      pub call-13 : not (u .ok) ≡ true → CongruenceMismatch (u .next) ≡ answer
       unfolding firstRefusal
-      call-13 e = rw (le-ltb _ _ a, le-ltb _ _ (all-stand tr (readRoot reads t) (length er) ps b), lt-ltb _ _ (not-all tr (callRoot calls cargs t) (length er + length ps) qs e))
+      call-13 k = let (m, e) = missing tr _ _ qs u from-there k in rw (le-ltb _ _ led, le-ltb _ _ (read-roots .0), lt-ltb _ _ m, e)
 
-      module _ (d : eqb bad1 (length qs) ≡ true) where
-        pub surplus-12 : (length er + length ps + bad1 ≡ length tr → ⊥) → answer ≡ RootMismatch 0
-        unfolding firstRefusal
-        surplus-12 n =
-            let e : length tr ≡ length er + length ps + length qs → ⊥ = λ q. n (ap (λ (z : ℕ). length er + length ps + z) (eqb-true bad1 (length qs) d) ∙ sym q) in
-            rw (le-ltb _ _ a, le-ltb _ _ (all-stand tr (readRoot reads t) (length er) ps b), le-ltb _ _ (all-stand tr (callRoot calls cargs t) (length er + length ps) qs d), ne-eqb _ _ e)
+      module _ (k : not (u .ok) ≡ false) where
+        call-roots : (length qs ≤ badCong tr (callRoot (E .calls) (E .cargs) (T .rows)) (length er + length ps) qs)
+            × (u .next ≡ length er + length ps + length qs)
+        call-roots = standing tr _ _ qs u from-there k
 
-        pub roots-good : length er + length ps + bad1 ≡ length tr → answer ≡ Accepted
+        pub surplus-12 : (u .next ≡ length tr → ⊥) → RootMismatch 0 ≡ answer
         unfolding firstRefusal
-        roots-good q =
-            let e : length tr ≡ length er + length ps + length qs = sym q ∙ ap (λ (z : ℕ). length er + length ps + z) (eqb-true bad1 (length qs) d) in
-            rw (le-ltb _ _ a, le-ltb _ _ (all-stand tr (readRoot reads t) (length er) ps b), le-ltb _ _ (all-stand tr (callRoot calls cargs t) (length er + length ps) qs d), eq-eqb _ _ e)
+        surplus-12 s =
+            rw (le-ltb _ _ led, le-ltb _ _ (read-roots .0), le-ltb _ _ (call-roots .0), ne-eqb _ _ (λ z. s (call-roots .1 ∙ sym z)))
+
+        pub roots-good : u .next ≡ length tr → Accepted ≡ answer
+        unfolding firstRefusal
+        roots-good s = rw (le-ltb _ _ led, le-ltb _ _ (read-roots .0), le-ltb _ _ (call-roots .0), eq-eqb _ _ (sym s ∙ call-roots .1))

@@ -8,6 +8,7 @@ use Rattle.answers.specs.declared.Answer.{Answer}
 use Rattle.answers.specs.declared.Answer.the-variants.{Accepted, ReadTable, CallTable}
 use Rattle.lists.proofs.First.{first-all}
 use Rattle.lowering.specs.Tables.{readCount, callCount, readGood, callGood, readClasses, callClasses, badRead, badCall}
+use Rattle.lowering.specs.Lowering.{Entries}
 use Rattle.lowering.specs.Check.{firstRefusal, tableAnswers}
 
 -- a table without a bad entry
@@ -17,22 +18,22 @@ all-reads reads t ws cls h = first-all (λ k. not (readGood reads t ws (readClas
 pub all-calls : (calls cargs t cls : List ℕ) → callCount calls ≤ badCall calls cargs t cls → badCall calls cargs t cls ≡ callCount calls
 all-calls calls cargs t cls h = first-all (λ k. not (callGood calls cargs t (callClasses calls cls k) k)) (callCount calls) h
 
-module _ (reads calls cargs t ws cls : List ℕ) where
+module _ (E : Entries) (t ws cls : List ℕ) where
   abbrev answer : Answer
-  answer = firstRefusal (tableAnswers reads calls cargs t ws cls)
+  answer = firstRefusal (tableAnswers E t ws cls)
 
   abbrev after : List ℕ
-  after = readClasses reads cls (readCount reads)
+  after = readClasses (E .reads) cls (readCount (E .reads))
 
-  pub read-5 : badRead reads t ws cls < readCount reads → answer ≡ ReadTable (badRead reads t ws cls)
+  pub read-5 : badRead (E .reads) t ws cls < readCount (E .reads) → answer ≡ ReadTable (badRead (E .reads) t ws cls)
   unfolding firstRefusal
   read-5 h = rw (lt-ltb _ _ h)
 
-  module _ (a : readCount reads ≤ badRead reads t ws cls) where
-    pub call-6 : badCall calls cargs t after < callCount calls → answer ≡ CallTable (badCall calls cargs t after)
+  module _ (a : readCount (E .reads) ≤ badRead (E .reads) t ws cls) where
+    pub call-6 : badCall (E .calls) (E .cargs) t after < callCount (E .calls) → answer ≡ CallTable (badCall (E .calls) (E .cargs) t after)
     unfolding firstRefusal
     call-6 h = rw (le-ltb _ _ a, lt-ltb _ _ h)
 
-    pub tables-good : callCount calls ≤ badCall calls cargs t after → answer ≡ Accepted
+    pub tables-good : callCount (E .calls) ≤ badCall (E .calls) (E .cargs) t after → answer ≡ Accepted
     unfolding firstRefusal
     tables-good b = rw (le-ltb _ _ a, le-ltb _ _ b)

@@ -1,4 +1,4 @@
--- `applied::args_match` meets its contract: those before l agree. Assumes nothing.
+-- Invariant: the arguments before l agree. Assumes nothing.
 use Prim.Native.Nat.{ℕ, _≤_, _<_, _+_, _-_}
 use mathlib.Core.Path.{_≡_, _∙_, sym}
 use native.Mathlib.Nat.{not-suc-le-zero}

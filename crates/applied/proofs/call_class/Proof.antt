@@ -1,4 +1,4 @@
--- `applied::call_class` meets its contract. Assumes nothing.
+-- The two classes of a call variable, one test each. Assumes nothing.
 use borrow.Author.Tests.{eq-eqb, ne-eqb}
 use Rattle.applied.proofs.call_class.Statement.{statement}
 use Rattle.applied.proofs.call_class.Tie as tie

@@ -1,4 +1,4 @@
--- `applied::call_corr` meets its contract. Assumes nothing.
+-- The test decides; where it passes, the row is in range and its class can be written. Assumes nothing.
 use mathlib.Core.Path.{refl, sym}
 use Rattle.lists.proofs.Choice.{tested-no, tested-yes}
 use borrow.Author.Needs.{needs}

@@ -1,10 +1,11 @@
--- `chains::chain_walk` meets its contract: the walk of what is left gives the whole walk. Assumes nothing.
+-- Invariant: after l of k pairs, the walk from the current row along the rest is the whole walk. Assumes nothing.
 use Prim.Native.Nat.{_≤_, _+_, _*_, _-_}
 use mathlib.Core.Path.{_≡_, _∙_, sym, ap}
 use mathlib.Core.Logic.{⊎-elim}
 use native.Mathlib.Nat.{add-zero, sub-zero}
 use native.Mathlib.Omega.{arith}
 use Rattle.lowering.specs.declared.Walk.{Walk}
+use Rattle.lowering.specs.Lowering.{sourceGraph}
 use Rattle.lowering.specs.Matching.{walk}
 use Rattle.chains.specs.Step.{onward}
 use Rattle.chains.proofs.Walk.{along, walk-end, walk-step, onward-stays}
@@ -13,7 +14,7 @@ use Rattle.chains.proofs.chain_walk.Statement.{statement}
 use Rattle.chains.proofs.chain_walk.Tie as tie
 
 abbrev Inv-pairs : tie.InvT-pairs
-Inv-pairs source ebits eside map target j k s r q b row₀ l₀ row l = (l ≤ k) × (walk source ebits eside map target j k s r ≡ walk source ebits eside map target j (k - l) (s + 2 * l) row)
+Inv-pairs source ebits eside map target j k s r q b row₀ l₀ row l = (l ≤ k) × (walk (sourceGraph source ebits eside) map target j k s r ≡ walk (sourceGraph source ebits eside) map target j (k - l) (s + 2 * l) row)
 
 abbrev μ-pairs : tie.MeasureT-pairs
 μ-pairs source ebits eside map target j k s r q b row₀ l₀ row l = k - l
@@ -57,24 +58,24 @@ pairs-again c =
     let at-row = at-map-at .before in
     let at-start = at-row .before .before .before .before .before .before .before in
     let s = at-start .args in
-    let w = along (s .source .now) (s .ebits .now) (s .eside .now) (s .map .now) (s .target .now) (s .j) in
+    let w = along (sourceGraph (s .source .now) (s .ebits .now) (s .eside .now)) (s .map .now) (s .target .now) (s .j) in
     let l = c .before .before .before .before .before .pairs in
-    (omega arith, l .inv .1 ∙ walk-step _ _ _ _ _ _ (s .k) (s .s) (l .l) (l .row) (c .before .before .before .before .if2 .left) ∙ ap (λ (z : Walk). onward z (w (s .k - (l .l + 1)) (s .s + 2 * (l .l + 1)))) (sym (rw (at-row .row .ensures, at-map-at .map-at .ensures) at (c .before .before .before .pair-step .ensures)) ∙ c .before .step .given .1))
+    (omega arith, l .inv .1 ∙ walk-step _ _ _ _ (s .k) (s .s) (l .l) (l .row) (c .before .before .before .before .if2 .left) ∙ ap (λ (z : Walk). onward z (w (s .k - (l .l + 1)) (s .s + 2 * (l .l + 1)))) (sym (rw (at-row .row .ensures, at-map-at .map-at .ensures) at (c .before .before .before .pair-step .ensures)) ∙ c .before .step .given .1))
 
 returns-2 : tie.Need-returns-2 Inv-pairs μ-pairs
 returns-2 c =
     let s = c .before .before .before .before .before .before .before .before .before .before .args in
     let l = c .before .pairs in
-    sym (l .inv .1 ∙ walk-end _ _ _ _ _ _ (s .k) (s .s) (l .l) (l .row) (c .if2 .taken))
+    sym (l .inv .1 ∙ walk-end _ _ _ _ (s .k) (s .s) (l .l) (l .row) (c .if2 .taken))
 
 returns-3 : tie.Need-returns-3 Inv-pairs μ-pairs
 returns-3 c =
     let at-else1 = c .before .before .before .before .before .before in
     let at-start = at-else1 .before .before .before .before .before .before in
     let s = at-start .args in
-    let w = along (s .source .now) (s .ebits .now) (s .eside .now) (s .map .now) (s .target .now) (s .j) in
+    let w = along (sourceGraph (s .source .now) (s .ebits .now) (s .eside .now)) (s .map .now) (s .target .now) (s .j) in
     let l = c .before .before .before .pairs in
-    sym (l .inv .1 ∙ walk-step _ _ _ _ _ _ (s .k) (s .s) (l .l) (l .row) (c .before .before .if2 .left) ∙ ap (λ (z : Walk). onward z (w (s .k - (l .l + 1)) (s .s + 2 * (l .l + 1)))) (sym (rw (c .before .before .before .before .before .row .ensures, c .before .before .before .before .map-at .ensures) at (c .before .pair-step .ensures))) ∙ onward-stays _ _ (λ z e. ⊎-elim (λ h. omega arith) (λ h. omega arith) (rw e at (c .match .keys2))))
+    sym (l .inv .1 ∙ walk-step _ _ _ _ (s .k) (s .s) (l .l) (l .row) (c .before .before .if2 .left) ∙ ap (λ (z : Walk). onward z (w (s .k - (l .l + 1)) (s .s + 2 * (l .l + 1)))) (sym (rw (c .before .before .before .before .before .row .ensures, c .before .before .before .before .map-at .ensures) at (c .before .pair-step .ensures))) ∙ onward-stays _ _ (λ z e. ⊎-elim (λ h. omega arith) (λ h. omega arith) (rw e at (c .match .keys2))))
 
 pub chain-walk-spec : {M : Type 1} → statement M
 chain-walk-spec =

@@ -1,4 +1,4 @@
--- `chains::level` meets its contract. Assumes nothing.
+-- The definition's four tests in its order. Assumes nothing.
 use mathlib.Core.Path.{_∙_, sym}
 use borrow.Author.Tests.{lt-ltb, le-ltb, eq-eqb, ne-eqb, not-true, not-false}
 use Rattle.lists.specs.Tests.{all}

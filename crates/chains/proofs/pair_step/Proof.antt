@@ -1,4 +1,4 @@
--- `chains::pair_step` meets its contract. Assumes nothing.
+-- By the definition's choice: not both constants, equal constants, unequal ones. Assumes nothing.
 use mathlib.Core.Path.{_∙_, sym}
 use borrow.Author.Tests.{not-true, not-false}
 use borrow.Author.Needs.{needs}

@@ -1,4 +1,4 @@
--- `chains::select_corr` meets its contract. Assumes nothing.
+-- The walk's stop, then the test of that stop. Assumes nothing.
 use mathlib.Core.Path.{_∙_}
 use borrow.Author.Needs.{needs}
 use Rattle.chains.proofs.select_corr.Statement.{statement}

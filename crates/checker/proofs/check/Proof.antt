@@ -1,4 +1,4 @@
--- `checker::check` meets its contract. Assumes nothing.
+-- Counts, forms, lowering in 01's order: each return is the law of its stage; the lists that are left follow from the answer. Assumes nothing.
 use mathlib.Core.Path.{_≡_, refl, sym, _∙_}
 use mathlib.Core.Bool.{true}
 use mathlib.Core.List.{[]}
@@ -15,7 +15,7 @@ use Rattle.checker.proofs.check.Tie as tie
 
 -- the start, from the first place past what is known of the lists
 abbrev start : tie.After-count-answer → tie.Start
-start c = c .before .before .before .before .before .before .before .before .before .before .before .before .before .before .before .before
+start c = let lists = c .before .before .before .before .before .before .before .before in lists .before .before .before .before .before .before .before .before
 
 abbrev input : tie.Start → Lowering
 input c =
@@ -29,8 +29,8 @@ counts-pass : (c : tie.Else1)
     let s = at-start .args in
     isAccepted (counts (input at-start) (s .ws0 .now) (s .ws1 .now) (s .cls .now) (s .ent .now)) ≡ true)
 counts-pass c =
-    let s = start (c .before .before) .args in
-    rw (c .before .before .count-answer .ensures (s .source .now) (s .target .now) refl refl) at (sym (c .before .is-accepted .ensures) ∙ not-false _ (c .if1 .left))
+    let L = input (start (c .before .before)) in
+    rw (c .before .before .count-answer .ensures (L .source) (L .target) refl refl) at (sym (c .before .is-accepted .ensures) ∙ not-false _ (c .if1 .left))
 
 forms-accepted : (c : tie.Else2) → isAccepted (c .before .before .before .before .before .before .graphs .result) ≡ true
 forms-accepted c = sym (c .before .is-accepted2 .ensures) ∙ not-false _ (c .if2 .left)
@@ -47,7 +47,7 @@ returns c =
     let at-start = start at-count-answer in
     let s = at-start .args in
     let L = input at-start in
-    count-done L (s .ws0 .now) (s .ws1 .now) (s .cls .now) (s .ent .now) _ (at-count-answer .count-answer .ensures (s .source .now) (s .target .now) refl refl) (sym (c .before .is-accepted .ensures) ∙ not-true _ (c .if1 .taken))
+    count-done L (s .ws0 .now) (s .ws1 .now) (s .cls .now) (s .ent .now) _ (at-count-answer .count-answer .ensures (L .source) (L .target) refl refl) (sym (c .before .is-accepted .ensures) ∙ not-true _ (c .if1 .taken))
 
 graphs-requires : tie.Need-graphs-requires
 graphs-requires c κs =

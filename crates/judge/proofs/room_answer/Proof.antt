@@ -1,7 +1,7 @@
 -- `judge::room_answer` meets its contract. Assumes nothing.
 use mathlib.Core.Path.{sym, _∙_}
 use borrow.Author.Tests.{not-true, not-false}
-use Rattle.book.specs.Words.{listOf}
+use Rattle.judge.specs.Judge.{held}
 use Rattle.judge.proofs.Outcome.{counts-refused, words-short, room-good}
 use borrow.Author.Needs.{needs}
 use Rattle.judge.proofs.room_answer.Statement.{statement}
@@ -23,7 +23,7 @@ returns : tie.Need-returns
 returns c =
     let s = c .before .before .before .before .before .before .args in
     let b = s .book .now in
-    counts-refused b _ _ _ _ _ _ (c .before .before .count-answer .ensures (listOf b 0) (listOf b 8) (sym (c .before .before .before .before .word-count .ensures)) (sym (c .before .before .before .word-count2 .ensures))) (sym (c .before .is-accepted .ensures) ∙ not-true _ (c .if1 .taken))
+    counts-refused b _ _ _ _ _ _ (c .before .before .count-answer .ensures (held b .source) (held b .target) (sym (c .before .before .before .before .word-count .ensures)) (sym (c .before .before .before .word-count2 .ensures))) (sym (c .before .is-accepted .ensures) ∙ not-true _ (c .if1 .taken))
 
 offset-requires : tie.Need-offset-requires
 offset-requires c κs = search needs
@@ -32,13 +32,13 @@ returns-2 : tie.Need-returns-2
 returns-2 c =
     let s = c .before .before .before .before .before .before .before .before .args in
     let b = s .book .now in
-    words-short b _ _ _ _ _ _ (c .before .before .before .before .count-answer .ensures (listOf b 0) (listOf b 8) (sym (c .before .before .before .before .before .before .word-count .ensures)) (sym (c .before .before .before .before .before .word-count2 .ensures))) (sym (c .before .before .before .is-accepted .ensures) ∙ not-false _ (c .before .before .if1 .left)) _ (c .before .offset .ensures) (c .if2 .taken)
+    words-short b _ _ _ _ _ _ (c .before .before .before .before .count-answer .ensures (held b .source) (held b .target) (sym (c .before .before .before .before .before .before .word-count .ensures)) (sym (c .before .before .before .before .before .word-count2 .ensures))) (sym (c .before .before .before .is-accepted .ensures) ∙ not-false _ (c .before .before .if1 .left)) _ (c .before .offset .ensures) (c .if2 .taken)
 
 returns-3 : tie.Need-returns-3
 returns-3 c =
     let s = c .before .before .before .before .before .before .before .before .args in
     let b = s .book .now in
-    room-good b _ _ _ _ _ _ (c .before .before .before .before .count-answer .ensures (listOf b 0) (listOf b 8) (sym (c .before .before .before .before .before .before .word-count .ensures)) (sym (c .before .before .before .before .before .word-count2 .ensures))) (sym (c .before .before .before .is-accepted .ensures) ∙ not-false _ (c .before .before .if1 .left)) _ (c .before .offset .ensures) (c .if2 .left)
+    room-good b _ _ _ _ _ _ (c .before .before .before .before .count-answer .ensures (held b .source) (held b .target) (sym (c .before .before .before .before .before .before .word-count .ensures)) (sym (c .before .before .before .before .before .word-count2 .ensures))) (sym (c .before .before .before .is-accepted .ensures) ∙ not-false _ (c .before .before .if1 .left)) _ (c .before .offset .ensures) (c .if2 .left)
 
 pub room-answer-spec : {M : Type 1} → statement M
 room-answer-spec =

@@ -1,4 +1,4 @@
--- `lowered::lowered` meets its contract. Assumes nothing.
+-- The front of each list, cleared, is what the stages ask for; the rest stays zero. Assumes nothing.
 use mathlib.Core.Path.{sym}
 use lib.ListN.{length-replicate}
 use lib.Seq.{length-take-le}
@@ -9,7 +9,7 @@ use Rattle.lowered.proofs.lowered.Tie as tie
 
 -- the start, from the first place past what is known of the lists
 abbrev start : tie.After-clear-arg → tie.Start
-start c = c .before .before .before .before .before .before .before .before .before .before .before .before .before .before .before
+start c = let lists = c .before .before .before .before .before .before .before .before in lists .before .before .before .before .before .before .before
 
 clear-requires : tie.Need-clear-requires
 clear-requires c κs = search needs

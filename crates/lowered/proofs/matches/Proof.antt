@@ -1,4 +1,4 @@
--- `lowered::matches` meets its contract. Assumes nothing.
+-- The stages in their order: each return is the law of its stage over what the calls before it answered and left. Assumes nothing.
 use Prim.Native.Nat.{ℕ}
 use mathlib.Core.Path.{sym, ap, _∙_}
 use lib.ListN.{length, length-replicate}
@@ -16,7 +16,7 @@ use Rattle.lowered.proofs.matches.Tie as tie
 
 -- the start, from the first place past what is known of the lists
 abbrev start : tie.After-row-count → tie.Start
-start c = c .before .before .before .before .before .before .before .before .before .before .before .before .before .before .before
+start c = let lists = c .before .before .before .before .before .before .before .before in lists .before .before .before .before .before .before .before
 
 abbrev input : tie.Start → Lowering
 input c =

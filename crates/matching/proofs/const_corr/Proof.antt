@@ -1,4 +1,4 @@
--- `matching::const_corr` meets its contract. Assumes nothing.
+-- The comparison of two constants, at the image's words. Assumes nothing.
 use mathlib.Core.Path.{_∙_}
 use borrow.Author.Needs.{needs}
 use Rattle.matching.proofs.const_corr.Statement.{statement}

@@ -1,4 +1,4 @@
--- `matching::dead_class` meets its contract. Assumes nothing.
+-- The two classes of an entry that nothing has reached, one test each. Assumes nothing.
 use borrow.Author.Tests.{eq-eqb, ne-eqb}
 use Rattle.matching.proofs.dead_class.Statement.{statement}
 use Rattle.matching.proofs.dead_class.Tie as tie

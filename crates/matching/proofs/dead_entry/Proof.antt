@@ -1,4 +1,4 @@
--- `matching::dead_entry` meets its contract: the loop is the search `first`. Assumes nothing.
+-- Invariant: no row before i has a dead class; the loop is the search `first`. Assumes nothing.
 use Prim.Native.Nat.{ℕ, _≤_, _<_, _-_}
 use mathlib.Core.Path.{_≡_, _∙_, sym}
 use mathlib.Core.Bool.{false}

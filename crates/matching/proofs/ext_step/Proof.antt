@@ -1,4 +1,4 @@
--- `matching::ext_step` meets its contract. Assumes nothing.
+-- Skipped, out of range, or the answer of the row's node at its image. Assumes nothing.
 use mathlib.Core.Path.{refl, sym, _∙_}
 use borrow.Author.Tests.{lt-ltb, le-ltb, eq-eqb, ne-eqb}
 use Rattle.lowering.specs.Matching.{rowAnswer, rowClasses}
@@ -8,7 +8,7 @@ use Rattle.matching.proofs.ext_step.Tie as tie
 
 -- the start, from the first place past what is known of the lists
 abbrev start : tie.After-map-at → tie.Start
-start c = c .before .before .before .before .before .before .before .before .before .before .before .before
+start c = let lists = c .before .before .before .before .before .before .before .before in lists .before .before .before .before
 
 map-at-requires : tie.Need-map-at-requires
 map-at-requires c κs = search needs

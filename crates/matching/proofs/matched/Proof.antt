@@ -1,4 +1,4 @@
--- `matching::matched` meets its contract. Assumes nothing.
+-- By the match. Assumes nothing.
 use Rattle.matching.proofs.matched.Statement.{statement}
 use Rattle.matching.proofs.matched.Tie as tie
 

@@ -1,4 +1,4 @@
--- `matching::node_corr` meets its contract. Assumes nothing.
+-- The image's words against those of the mapped row. Assumes nothing.
 use mathlib.Core.Path.{_∙_}
 use Rattle.lowering.specs.Images.{rowIs}
 use Rattle.lowering.specs.Matching.{nodeMatches}

@@ -1,4 +1,4 @@
--- `matching::var_corr` meets its contract. Assumes nothing.
+-- Both tests in the definition's order; the class is written where both pass. Assumes nothing.
 use mathlib.Core.Path.{refl}
 use borrow.Author.Tests.{eq-eqb, ne-eqb}
 use Rattle.lists.specs.Tests.{all}

@@ -1,4 +1,4 @@
--- `stages::clear_all` meets its contract. Assumes nothing.
+-- The four lists one after the other. Assumes nothing.
 use borrow.Author.Needs.{needs}
 use Rattle.stages.proofs.clear_all.Statement.{statement}
 use Rattle.stages.proofs.clear_all.Tie as tie

@@ -1,9 +1,10 @@
--- `stages::entries` meets its contract. Assumes nothing.
+-- Both tables in order; a law for each refusal. A table that passes has marked each of its entries. Assumes nothing.
 use Prim.Native.Nat.{_≤_}
 use mathlib.Core.Path.{sym, ap, _∙_}
 use Rattle.answers.specs.declared.Answer.the-variants.{ReadTable, CallTable}
 use Rattle.lists.proofs.Choice.{no-way}
 use Rattle.lowering.specs.Tables.{readCount, badRead}
+use Rattle.lowering.specs.Lowering.{entries}
 use Rattle.stages.proofs.TableLaws.{all-reads, all-calls, read-5, call-6, tables-good}
 use borrow.Author.Needs.{needs}
 use Rattle.stages.proofs.entries.Statement.{statement}
@@ -27,7 +28,7 @@ returns c =
     let at-start = at-read-entries .before .before .before .before .before .before .before .before .before .before in
     let s = at-start .args in
     let r = at-read-entries .read-entries .ensures in
-    (ap ReadTable (r .0) ∙ sym (read-5 (s .reads .now) (s .calls .now) (s .cargs .now) (s .target .now) (s .ws .now) (s .cls .now) (rw (r .0, c .before .read-count .ensures) at (c .if1 .taken))), (λ h. no-way (sym h), λ h. no-way (sym h)))
+    (ap ReadTable (r .0) ∙ sym (read-5 (entries (s .reads .now) (s .calls .now) (s .cargs .now)) (s .target .now) (s .ws .now) (s .cls .now) (rw (r .0, c .before .read-count .ensures) at (c .if1 .taken))), (λ h. no-way (sym h), λ h. no-way (sym h)))
 
 call-entries-requires : tie.Need-call-entries-requires
 call-entries-requires c κs = search needs
@@ -56,7 +57,7 @@ returns-2 c =
     let offs = rw (r .0, all) at (r .1 .1) in
     let k = at-call-entries .call-entries .ensures in
     let bad = rw marked at (k .0) in
-    (ap CallTable bad ∙ sym (call-6 (s .reads .now) (s .calls .now) (s .cargs .now) (s .target .now) (s .ws .now) (s .cls .now) a (rw (bad, c .before .call-count .ensures) at (c .if2 .taken))), (λ h. no-way (sym h), λ h. no-way (sym h)))
+    (ap CallTable bad ∙ sym (call-6 (entries (s .reads .now) (s .calls .now) (s .cargs .now)) (s .target .now) (s .ws .now) (s .cls .now) a (rw (bad, c .before .call-count .ensures) at (c .if2 .taken))), (λ h. no-way (sym h), λ h. no-way (sym h)))
 
 same-length-5 : tie.Need-same-length-5
 same-length-5 c = search needs
@@ -81,7 +82,7 @@ returns-3 c =
     let bad = rw marked at (k .0) in
     let b = rw (bad, c .before .call-count .ensures) at (c .if2 .left) in
     let every = bad ∙ all-calls (s .calls .now) (s .cargs .now) (s .target .now) _ b in
-    (sym (tables-good (s .reads .now) (s .calls .now) (s .cargs .now) (s .target .now) (s .ws .now) (s .cls .now) a b), (λ h. k .1 .0 ∙ rw (marked, every), λ h. k .1 .1 ∙ rw (offs, every)))
+    (sym (tables-good (entries (s .reads .now) (s .calls .now) (s .cargs .now)) (s .target .now) (s .ws .now) (s .cls .now) a b), (λ h. k .1 .0 ∙ rw (marked, every), λ h. k .1 .1 ∙ rw (offs, every)))
 
 pub entries-spec : {M : Type 1} → statement M
 entries-spec =

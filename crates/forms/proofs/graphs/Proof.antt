@@ -1,8 +1,8 @@
--- `stages::graphs` meets its contract. Assumes nothing.
+-- The row where a pass stops gives the same answer as the ill-formed row; a stop in the source settles the answer. Assumes nothing.
 use Prim.Native.Nat.{ℕ, _<_}
 use mathlib.Core.Path.{_≡_, _∙_}
 use mathlib.Core.Bool.{true}
-use mathlib.Core.List.{List, []}
+use mathlib.Core.List.{[]}
 use native.Mathlib.Omega.{arith}
 use lib.ListN.{length}
 use Rattle.answers.specs.Answer.{isAccepted}
@@ -10,11 +10,12 @@ use Rattle.rows.specs.declared.Graph.the-variants.{Source, Target}
 use Rattle.rows.specs.Row.{rowCount}
 use Rattle.wf.proofs.Stop.{stop-good}
 use Rattle.wf.specs.Pass.{stopRow}
+use Rattle.lowering.specs.Lowering.{SourceGraph, TargetGraph, sourceGraph, targetGraph}
 use Rattle.lowering.specs.Check.{firstRefusal, graphAnswers}
-use Rattle.stages.proofs.Form.{stop-le, graphs-stop, source-settles, no-stop-source, no-stop-target, widths-all}
+use Rattle.forms.proofs.Form.{stop-le, graphs-stop, source-settles, no-stop-source, no-stop-target, widths-all}
 use borrow.Author.Needs.{needs}
-use Rattle.stages.proofs.graphs.Statement.{statement}
-use Rattle.stages.proofs.graphs.Tie as tie
+use Rattle.forms.proofs.graphs.Statement.{statement}
+use Rattle.forms.proofs.graphs.Tie as tie
 
 graph-wf-requires : tie.Need-graph-wf-requires
 graph-wf-requires c κs = search needs
@@ -35,8 +36,8 @@ same-length : tie.Need-same-length
 same-length c = search needs
 
 -- where a source row stops the pass, nothing is accepted
-stopped : {P : Type 0} (s eb t tb : List ℕ) (x y : ℕ) → x < rowCount Source s → isAccepted (firstRefusal (graphAnswers s eb t tb x y)) ≡ true → P
-stopped s eb t tb x y h accepts = let n = no-stop-source s eb t tb x y accepts in absurd (omega arith)
+stopped : {P : Type 0} (S : SourceGraph) (T : TargetGraph) (x y : ℕ) → x < rowCount Source (S .rows) → isAccepted (firstRefusal (graphAnswers S T x y)) ≡ true → P
+stopped S T x y h accepts = let n = no-stop-source S T x y accepts in absurd (omega arith)
 
 returns : tie.Need-returns
 returns c =
@@ -47,7 +48,7 @@ returns c =
     let t = length (s .tbits .now) in
     let n = rw (x .0, c .before .before .row-count .ensures) at (c .before .if1 .taken) in
     let a = rw (x .0) at (c .graph-answer .ensures) in
-    (a ∙ source-settles (s .source .now) (s .ebits .now) (s .target .now) (s .tbits .now) _ 0 (stopRow Target t [] (s .target .now)) n ∙ graphs-stop (s .source .now) (s .ebits .now) (s .eside .now) (s .target .now) (s .tbits .now), (λ h. stopped (s .source .now) (s .ebits .now) (s .target .now) (s .tbits .now) _ 0 n (rw a at h), λ h. stopped (s .source .now) (s .ebits .now) (s .target .now) (s .tbits .now) _ 0 n (rw a at h)))
+    (a ∙ source-settles (sourceGraph (s .source .now) (s .ebits .now) (s .eside .now)) (targetGraph (s .target .now) (s .tbits .now)) _ 0 (stopRow Target t [] (s .target .now)) n ∙ graphs-stop (sourceGraph (s .source .now) (s .ebits .now) (s .eside .now)) (targetGraph (s .target .now) (s .tbits .now)), (λ h. stopped (sourceGraph (s .source .now) (s .ebits .now) (s .eside .now)) (targetGraph (s .target .now) (s .tbits .now)) _ 0 n (rw a at h), λ h. stopped (sourceGraph (s .source .now) (s .ebits .now) (s .eside .now)) (targetGraph (s .target .now) (s .tbits .now)) _ 0 n (rw a at h)))
 
 sub-graph-wf : tie.Need-sub-graph-wf
 sub-graph-wf c = search needs
@@ -88,7 +89,7 @@ returns-2 c =
     let e = length (s .ebits .now) in
     let t = length (s .tbits .now) in
     let a = rw (x .0, y .0) at (c .graph-answer2 .ensures) in
-    (a ∙ graphs-stop (s .source .now) (s .ebits .now) (s .eside .now) (s .target .now) (s .tbits .now), (λ h. x .1 ∙ rw (x .0) (widths-all Source e (s .eside .now) (s .source .now) _ (no-stop-source (s .source .now) (s .ebits .now) (s .target .now) (s .tbits .now) _ _ (rw a at h))), λ h. y .1 ∙ rw (y .0) (widths-all Target t [] (s .target .now) _ (no-stop-target (s .source .now) (s .ebits .now) (s .target .now) (s .tbits .now) _ _ (rw a at h)))))
+    (a ∙ graphs-stop (sourceGraph (s .source .now) (s .ebits .now) (s .eside .now)) (targetGraph (s .target .now) (s .tbits .now)), (λ h. x .1 ∙ rw (x .0) (widths-all Source e (s .eside .now) (s .source .now) _ (no-stop-source (sourceGraph (s .source .now) (s .ebits .now) (s .eside .now)) (targetGraph (s .target .now) (s .tbits .now)) _ _ (rw a at h))), λ h. y .1 ∙ rw (y .0) (widths-all Target t [] (s .target .now) _ (no-stop-target (sourceGraph (s .source .now) (s .ebits .now) (s .eside .now)) (targetGraph (s .target .now) (s .tbits .now)) _ _ (rw a at h)))))
 
 pub graphs-spec : {M : Type 1} → statement M
 graphs-spec =

@@ -19,46 +19,47 @@ use Rattle.encoding.specs.Encoding.{rowBad, badRow, badBit}
 use Rattle.wf.specs.Widths.{illRow, widthsTo, widths}
 use Rattle.wf.specs.Pass.{rowStops, stopRow}
 use Rattle.wf.proofs.Stop.{stop-none, stop-ill}
-use Rattle.lowering.proofs.Inversion.{each-accepted, not-refused}
+use Rattle.lowering.proofs.Inversion.{each, not-refused}
+use Rattle.lowering.specs.Lowering.{SourceGraph, TargetGraph}
 use Rattle.lowering.specs.Check.{firstRefusal, graphAnswers, graphsAnswer}
 
 pub bad-row-le : (graph : Graph) (g : List ℕ) → badRow graph g ≤ rowCount graph g
 bad-row-le graph g = first-le (rowBad graph g) (rowCount graph g)
 
-module _ (s eb t tb : List ℕ) (x y : ℕ) where
+module _ (S : SourceGraph) (T : TargetGraph) (x y : ℕ) where
   abbrev answer : Answer
-  answer = firstRefusal (graphAnswers s eb t tb x y)
+  answer = firstRefusal (graphAnswers S T x y)
 
-  pub bad-source : badRow Source s < rowCount Source s → answer ≡ BadRow (badRow Source s) 1
+  pub bad-source : badRow Source (S .rows) < rowCount Source (S .rows) → answer ≡ BadRow (badRow Source (S .rows)) 1
   unfolding firstRefusal
   bad-source h = rw (lt-ltb _ _ h)
 
-  module _ (a : rowCount Source s ≤ badRow Source s) where
-    pub bad-target : badRow Target t < rowCount Target t → answer ≡ BadRow (badRow Target t) 2
+  module _ (a : rowCount Source (S .rows) ≤ badRow Source (S .rows)) where
+    pub bad-target : badRow Target (T .rows) < rowCount Target (T .rows) → answer ≡ BadRow (badRow Target (T .rows)) 2
     unfolding firstRefusal
     bad-target h = rw (le-ltb _ _ a, lt-ltb _ _ h)
 
-    module _ (b : rowCount Target t ≤ badRow Target t) where
-      pub bit-source : badBit eb < length eb → answer ≡ BadBit (badBit eb) 1
+    module _ (b : rowCount Target (T .rows) ≤ badRow Target (T .rows)) where
+      pub bit-source : badBit (S .bits) < length (S .bits) → answer ≡ BadBit (badBit (S .bits)) 1
       unfolding firstRefusal
       bit-source h = rw (le-ltb _ _ a, le-ltb _ _ b, lt-ltb _ _ h)
 
-      module _ (c : length eb ≤ badBit eb) where
-        pub bit-target : badBit tb < length tb → answer ≡ BadBit (badBit tb) 2
+      module _ (c : length (S .bits) ≤ badBit (S .bits)) where
+        pub bit-target : badBit (T .bits) < length (T .bits) → answer ≡ BadBit (badBit (T .bits)) 2
         unfolding firstRefusal
         bit-target h = rw (le-ltb _ _ a, le-ltb _ _ b, le-ltb _ _ c, lt-ltb _ _ h)
 
-        module _ (d : length tb ≤ badBit tb) where
-          pub ill-source : x < rowCount Source s → answer ≡ Ext x
+        module _ (d : length (T .bits) ≤ badBit (T .bits)) where
+          pub ill-source : x < rowCount Source (S .rows) → answer ≡ Ext x
           unfolding firstRefusal
           ill-source h = rw (le-ltb _ _ a, le-ltb _ _ b, le-ltb _ _ c, le-ltb _ _ d, lt-ltb _ _ h)
 
-          module _ (e : rowCount Source s ≤ x) where
-            pub ill-target : y < rowCount Target t → answer ≡ Core y
+          module _ (e : rowCount Source (S .rows) ≤ x) where
+            pub ill-target : y < rowCount Target (T .rows) → answer ≡ Core y
             unfolding firstRefusal
             ill-target h = rw (le-ltb _ _ a, le-ltb _ _ b, le-ltb _ _ c, le-ltb _ _ d, le-ltb _ _ e, lt-ltb _ _ h)
 
-            pub graphs-good : rowCount Target t ≤ y → answer ≡ Accepted
+            pub graphs-good : rowCount Target (T .rows) ≤ y → answer ≡ Accepted
             unfolding firstRefusal
             graphs-good f = rw (le-ltb _ _ a, le-ltb _ _ b, le-ltb _ _ c, le-ltb _ _ d, le-ltb _ _ e, le-ltb _ _ f)
 
@@ -77,35 +78,35 @@ module _ (graph : Graph) (nbits : ℕ) (side g : List ℕ) where
   stop-le = first-le (rowStops graph nbits side g) (rowCount graph g)
 
 -- the stop rows give the same answer as the ill-formed rows
-pub graphs-stop : (s eb side t tb : List ℕ)
-    → firstRefusal (graphAnswers s eb t tb (stopRow Source (length eb) side s) (stopRow Target (length tb) [] t)) ≡ graphsAnswer s eb side t tb
-graphs-stop s eb side t tb = go _ refl _ refl
+pub graphs-stop : (S : SourceGraph) (T : TargetGraph)
+    → firstRefusal (graphAnswers S T (stopRow Source (length (S .bits)) (S .side) (S .rows)) (stopRow Target (length (T .bits)) [] (T .rows))) ≡ graphsAnswer S T
+graphs-stop S T = go _ refl _ refl
   where
     x : ℕ
-    x = stopRow Source (length eb) side s
+    x = stopRow Source (length (S .bits)) (S .side) (S .rows)
 
     y : ℕ
-    y = stopRow Target (length tb) [] t
+    y = stopRow Target (length (T .bits)) [] (T .rows)
 
-    go : (b : Bool) → ltb (badRow Source s) (rowCount Source s) ≡ b → (c : Bool) → ltb (badRow Target t) (rowCount Target t) ≡ c
-        → firstRefusal (graphAnswers s eb t tb x y) ≡ graphsAnswer s eb side t tb
-    go true e c f = bad-source s eb t tb x y (ltb-true _ _ e) ∙ sym (bad-source s eb t tb _ _ (ltb-true _ _ e))
-    go false e true f = bad-target s eb t tb x y (ltb-false _ _ e) (ltb-true _ _ f) ∙ sym (bad-target s eb t tb _ _ (ltb-false _ _ e) (ltb-true _ _ f))
+    go : (b : Bool) → ltb (badRow Source (S .rows)) (rowCount Source (S .rows)) ≡ b → (c : Bool) → ltb (badRow Target (T .rows)) (rowCount Target (T .rows)) ≡ c
+        → firstRefusal (graphAnswers S T x y) ≡ graphsAnswer S T
+    go true e c f = bad-source S T x y (ltb-true _ _ e) ∙ sym (bad-source S T _ _ (ltb-true _ _ e))
+    go false e true f = bad-target S T x y (ltb-false _ _ e) (ltb-true _ _ f) ∙ sym (bad-target S T _ _ (ltb-false _ _ e) (ltb-true _ _ f))
     go false e false f =
-        rw (stop-is-ill Source (length eb) side s (ltb-false _ _ e), stop-is-ill Target (length tb) [] t (ltb-false _ _ f))
+        rw (stop-is-ill Source (length (S .bits)) (S .side) (S .rows) (ltb-false _ _ e), stop-is-ill Target (length (T .bits)) [] (T .rows) (ltb-false _ _ f))
 
 -- a row that stops the pass along the source settles the answer, wherever the target's pass stops
-pub source-settles : (s eb t tb : List ℕ) (x y z : ℕ) → x < rowCount Source s → firstRefusal (graphAnswers s eb t tb x y) ≡ firstRefusal (graphAnswers s eb t tb x z)
+pub source-settles : (S : SourceGraph) (T : TargetGraph) (x y z : ℕ) → x < rowCount Source (S .rows) → firstRefusal (graphAnswers S T x y) ≡ firstRefusal (graphAnswers S T x z)
 unfolding firstRefusal
-source-settles s eb t tb x y z h = rw (lt-ltb _ _ h)
+source-settles S T x y z h = rw (lt-ltb _ _ h)
 
 -- acceptance: no row stops a pass
-module _ (s eb t tb : List ℕ) (x y : ℕ) (accepts : isAccepted (firstRefusal (graphAnswers s eb t tb x y)) ≡ true) where
-  pub no-stop-source : rowCount Source s ≤ x
-  no-stop-source = ltb-false _ _ (not-refused _ (Ext x) refl (each-accepted (graphAnswers s eb t tb x y) accepts 4))
+module _ (S : SourceGraph) (T : TargetGraph) (x y : ℕ) (accepts : isAccepted (firstRefusal (graphAnswers S T x y)) ≡ true) where
+  pub no-stop-source : rowCount Source (S .rows) ≤ x
+  no-stop-source = let (_, (_, (_, (_, (ill0, _))))) = each _ accepts in ltb-false _ _ (not-refused _ (Ext x) refl ill0)
 
-  pub no-stop-target : rowCount Target t ≤ y
-  no-stop-target = ltb-false _ _ (not-refused _ (Core y) refl (each-accepted (graphAnswers s eb t tb x y) accepts 5))
+  pub no-stop-target : rowCount Target (T .rows) ≤ y
+  no-stop-target = let (_, (_, (_, (_, (_, (ill1, _)))))) = each _ accepts in ltb-false _ _ (not-refused _ (Core y) refl ill1)
 
 -- so the whole list of widths stands there
 pub widths-all : (graph : Graph) (nbits : ℕ) (side g ws : List ℕ) → rowCount graph g ≤ stopRow graph nbits side g

@@ -1,7 +1,7 @@
--- `stages::count_answer` meets its contract. Assumes nothing.
-use Rattle.stages.proofs.Counts.{count-source, count-target, short-1, short-2, short-3, short-4, count-good}
-use Rattle.stages.proofs.count_answer.Statement.{statement}
-use Rattle.stages.proofs.count_answer.Tie as tie
+-- The six tests in their order; a law for each refusal. Assumes nothing.
+use Rattle.forms.proofs.Counts.{count-source, count-target, short-1, short-2, short-3, short-4, count-good}
+use Rattle.forms.proofs.count_answer.Statement.{statement}
+use Rattle.forms.proofs.count_answer.Tie as tie
 
 returns : tie.Need-returns
 returns c = let a = c .before .args in λ s t en em. count-source _ _ (a .w0) (a .w1) (a .c) (a .e) s t en em (c .if1 .taken)

@@ -1,11 +1,11 @@
--- `chains::walk_end` meets its contract. Assumes nothing.
+-- By where the walk stopped: each arm is the definition at that stop. Assumes nothing.
 use mathlib.Core.Path.{_∙_, refl, sym}
 use lib.Dec.{eqb}
 use Rattle.lowering.specs.Matching.{endGood}
 use Rattle.lists.proofs.Choice.{cond-same}
 use borrow.Author.Needs.{needs}
-use Rattle.chains.proofs.walk_end.Statement.{statement}
-use Rattle.chains.proofs.walk_end.Tie as tie
+use Rattle.ends.proofs.walk_end.Statement.{statement}
+use Rattle.ends.proofs.walk_end.Tie as tie
 
 enum-known-w : tie.Need-enum-known-w
 enum-known-w c = search needs

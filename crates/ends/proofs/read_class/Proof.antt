@@ -1,7 +1,7 @@
--- `chains::read_class` meets its contract. Assumes nothing.
+-- The two classes of a read variable, one test each. Assumes nothing.
 use borrow.Author.Tests.{eq-eqb, ne-eqb}
-use Rattle.chains.proofs.read_class.Statement.{statement}
-use Rattle.chains.proofs.read_class.Tie as tie
+use Rattle.ends.proofs.read_class.Statement.{statement}
+use Rattle.ends.proofs.read_class.Tie as tie
 
 returns : tie.Need-returns
 returns c = rw (eq-eqb _ _ (c .if1 .taken))

@@ -1,17 +1,17 @@
 -- The answer to the counts of words, refusal by refusal. Assumes nothing.
 use Prim.Native.Nat.{ℕ, _/_, _%_, _<_, _≤_}
 use mathlib.Core.Path.{_≡_}
-use mathlib.Core.List.{List}
 use borrow.Author.Tests.{eq-eqb, ne-eqb, lt-ltb, le-ltb}
 use lib.ListN.{length}
 use Rattle.answers.specs.declared.Answer.{Answer}
 use Rattle.answers.specs.declared.Answer.the-variants.{Accepted, RowCount, WorkShort}
+use Rattle.lowering.specs.Lowering.{SourceGraph, TargetGraph}
 use Rattle.lowering.specs.Check.{firstRefusal, countAnswers}
 
 -- a source and a target of n and m words
-module _ (n m w0 w1 c e : ℕ) (s t : List ℕ) (en : length s ≡ n) (em : length t ≡ m) where
+module _ (n m w0 w1 c e : ℕ) (S : SourceGraph) (T : TargetGraph) (en : length (S .rows) ≡ n) (em : length (T .rows) ≡ m) where
   abbrev answer : Answer
-  answer = firstRefusal (countAnswers s t w0 w1 c e)
+  answer = firstRefusal (countAnswers S T w0 w1 c e)
 
   pub count-source : (n % 5 ≡ 0 → ⊥) → RowCount 1 ≡ answer
   unfolding firstRefusal
