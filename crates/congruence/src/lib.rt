@@ -2,10 +2,10 @@
 ghost use mathlib.Core.Path.{_≡_};
 ghost use mathlib.Core.List.{[], _∷_};
 ghost use Prim.Native.Nat.{_+_, _*_, _-_, _<_, _≤_};
-ghost use lib.Dec.{eqb, ltb};
+ghost use lib.Dec.{ltb};
 ghost use lib.ListN.{length, getD};
 ghost use Rattle.lists.specs.Tests.{all};
-ghost use Rattle.lowering.specs.Tables.{callCount, callFunction, argCount, sameFunction};
+ghost use Rattle.lowering.specs.Tables.{callCount, sameFunction};
 ghost use Rattle.lowering.specs.Roots.{pairsWith, callPairs, allEqual, congruent, callRoot};
 ghost use Rattle.pairs.specs.Walk.{walked};
 ghost use Rattle.congruence.specs.Calls.{CallsIn};
@@ -38,18 +38,6 @@ fn ante_ok(target: &[u64], cargs: &[u64], sp: usize, sq: usize, k: usize, a: u64
     images::is_eq(target, cargs[sp], cargs[sq], cur)
 }
 
-// Entry l is of function fid with k arguments.
-fn call_needs(calls: &[u64], fid: u64, k: u64, l: usize) -> bool
-    requires { ⌜ l * 4 + 4 ≤ length (now calls) ⌝ }
-    ensures test { λ r. ⌜ r ≡ all (eqb fid (callFunction (now (calls .entry)) l) ∷ eqb k (argCount (now (calls .entry)) l) ∷ []) ⌝ }
-{
-    let at = l * 4;
-    if fid != calls[at + 1] {
-        return false;
-    }
-    k == calls[at + 3]
-}
-
 // The root at position idx says that vp and vq are equal where the k arguments from sp on and from sq on are.
 fn call_stands(
     cargs: &[u64],
@@ -73,7 +61,7 @@ fn call_stands(
     if k == 0 {
         return false;
     }
-    let a = pairs::implication_shape(target, troots[idx], vp, vq);
+    let a = leads::implication_shape(target, troots[idx], vp, vq);
     ante_ok(target, cargs, sp as usize, sq as usize, k as usize, a)
 }
 
@@ -100,8 +88,8 @@ fn uf_cong_for(
     let mut idx = idx0;
     let mut l = k + 1;
     while l < n {
-        if call_needs(calls, fid, count, l) {
-            let o = l * 4;
+        let o = l * 4;
+        if keys::function_is(calls, o, fid, count) {
             let sq = calls[o + 2];
             if !call_stands(cargs, target, troots, idx, sp, sq, count, vp, calls[o]) {
                 return Cong {

@@ -1,2 +1,3 @@
 pub mod Constants
 pub mod Equality
+pub mod Agree

@@ -1,5 +1,5 @@
 -- The two tables and the classes that they give (01, 'Rows', 'How a row is matched' and the refusals 5 and 6). Assumes nothing.
-use Prim.Native.Nat.{ℕ, _+_, _*_, _/_}
+use Prim.Native.Nat.{ℕ, _+_, _-_, _*_, _/_}
 use mathlib.Core.Bool.{Bool, not}
 use mathlib.Core.List.{List, [], _∷_}
 use lib.Dec.{eqb, ltb, leb}
@@ -12,14 +12,21 @@ use Rattle.rows.specs.declared.Node.the-variants.{Var}
 use Rattle.rows.specs.Row.{rowCount, rowAt}
 use Rattle.rows.specs.Tags.{tVar}
 use Rattle.rules.specs.Rule.{indexWidth, cellWidth, hasWidth}
-use Rattle.lowering.specs.Images.{rowIs, tagAt}
+use Rattle.lowering.specs.Images.{rowIs}
 
--- "reads in threes (variable row, array, index row)"; a cut entry counts as one
+-- a table has entries of `stride` words, and a cut entry counts as one; the first word of an entry is its variable's row
+abbrev pub entryCount : ℕ → List ℕ → ℕ
+entryCount stride table = (length table + (stride - 1)) / stride
+
+abbrev pub entryVar : ℕ → List ℕ → ℕ → ℕ
+entryVar stride table k = getD table (k * stride) 0
+
+-- "reads in threes (variable row, array, index row)"
 abbrev pub readCount : List ℕ → ℕ
-readCount reads = (length reads + 2) / 3
+readCount reads = entryCount 3 reads
 
 abbrev pub readVar : List ℕ → ℕ → ℕ
-readVar reads k = getD reads (k * 3) 0
+readVar reads k = entryVar 3 reads k
 
 abbrev pub readArray : List ℕ → ℕ → ℕ
 readArray reads k = getD reads (k * 3 + 1) 0
@@ -29,10 +36,10 @@ readIndex reads k = getD reads (k * 3 + 2) 0
 
 -- "calls in fours (variable row, function, start in the argument list, count)"
 abbrev pub callCount : List ℕ → ℕ
-callCount calls = (length calls + 3) / 4
+callCount calls = entryCount 4 calls
 
 abbrev pub callVar : List ℕ → ℕ → ℕ
-callVar calls k = getD calls (k * 4) 0
+callVar calls k = entryVar 4 calls k
 
 abbrev pub callFunction : List ℕ → ℕ → ℕ
 callFunction calls k = getD calls (k * 4 + 1) 0
@@ -57,49 +64,60 @@ sameFunction calls k l = all (eqb (callFunction calls k) (callFunction calls l) 
 unfoldable pub sameCall : List ℕ → List ℕ → ℕ → ℕ → Bool
 sameCall calls cargs k l = all (sameFunction calls k l ∷ agree (callArg calls cargs k) (callArg calls cargs l) (argCount calls l) ∷ [])
 
--- 5: "a cut entry, a variable that is no free Var (width 8 for reads), index .. out of range, index width not 32, or the same key again".
--- A variable is free in class 0; ws are the target's widths, cls the classes after the entries before
+-- 5 and 6: "a cut entry, a variable that is no free Var (width 8 for reads)", or one of the table's own tests. A variable is free in class 0;
+-- isVar tests its row, cls are the classes after the entries before
+abbrev pub entryGood : ℕ → (List ℕ → Bool) → List ℕ → List ℕ → List ℕ → ℕ → List Bool → Bool
+entryGood stride isVar table target cls k own =
+    all
+    (leb (k * stride + stride) (length table)
+    ∷ ltb (entryVar stride table k) (rowCount Target target)
+    ∷ isVar (rowAt Target target (entryVar stride table k))
+    ∷ eqb (getD cls (entryVar stride table k) 0) 0
+    ∷ own)
+
+-- 5: "index .. out of range, index width not 32, or the same key again"; ws are the target's widths
 unfoldable pub readGood : List ℕ → List ℕ → List ℕ → List ℕ → ℕ → Bool
 readGood reads target ws cls k =
-    all
-    (leb (k * 3 + 3) (length reads)
-    ∷ ltb (readVar reads k) (rowCount Target target)
-    ∷ rowIs (rowAt Target target (readVar reads k)) (Var (cellWidth (readArray reads k)))
-    ∷ eqb (getD cls (readVar reads k) 0) 0
-    ∷ hasWidth ws (readIndex reads k) (indexWidth (readArray reads k))
+    entryGood 3 (λ r. rowIs r (Var (cellWidth (readArray reads k)))) reads target cls k
+    (hasWidth ws (readIndex reads k) (indexWidth (readArray reads k))
     ∷ none (λ l. sameRead reads l k) k
     ∷ [])
 
--- 6, likewise: the arguments lie in the argument list, also the start of none, and are rows of the target
+-- 6: the arguments lie in the argument list, also the start of none, and are rows of the target; no key comes again
 unfoldable pub callGood : List ℕ → List ℕ → List ℕ → List ℕ → ℕ → Bool
 callGood calls cargs target cls k =
-    all
-    (leb (k * 4 + 4) (length calls)
-    ∷ ltb (callVar calls k) (rowCount Target target)
-    ∷ eqb (tagAt target (callVar calls k)) tVar
-    ∷ eqb (getD cls (callVar calls k) 0) 0
-    ∷ leb (callStart calls k + argCount calls k) (length cargs)
+    entryGood 4 (λ r. eqb (getD r 0 0) tVar) calls target cls k
+    (leb (callStart calls k + argCount calls k) (length cargs)
     ∷ none (λ l. leb (rowCount Target target) (callArg calls cargs k l)) (argCount calls k)
     ∷ none (λ l. sameCall calls cargs l k) k
     ∷ [])
 
--- "read entries make their variable's 2, call entries 3": the classes after n entries
+-- the walk over a table: each entry gives its variable a class, and its "word offset in its table"; the lists after n entries
+abbrev pub tableClasses : ℕ → ℕ → List ℕ → List ℕ → ℕ → List ℕ
+tableClasses stride class table cls n = marks (entryVar stride table) (λ k. class) cls n
+
+abbrev pub tableOffsets : ℕ → List ℕ → List ℕ → ℕ → List ℕ
+tableOffsets stride table ent n = marks (entryVar stride table) (λ k. k * stride) ent n
+
+-- the first bad entry, or the number of entries: each is tested with the classes after the entries before
+abbrev pub badEntry : ℕ → ℕ → (List ℕ → ℕ → Bool) → List ℕ → List ℕ → ℕ
+badEntry stride class good table cls = first (λ k. not (good (tableClasses stride class table cls k) k)) (entryCount stride table)
+
+-- "read entries make their variable's 2, call entries 3"
 abbrev pub readClasses : List ℕ → List ℕ → ℕ → List ℕ
-readClasses reads cls n = marks (readVar reads) (λ k. 2) cls n
+readClasses reads cls n = tableClasses 3 2 reads cls n
 
 abbrev pub callClasses : List ℕ → List ℕ → ℕ → List ℕ
-callClasses calls cls n = marks (callVar calls) (λ k. 3) cls n
+callClasses calls cls n = tableClasses 4 3 calls cls n
 
--- "entry offsets (word offset in its table, else 0)"
 abbrev pub readOffsets : List ℕ → List ℕ → ℕ → List ℕ
-readOffsets reads ent n = marks (readVar reads) (λ k. k * 3) ent n
+readOffsets reads ent n = tableOffsets 3 reads ent n
 
 abbrev pub callOffsets : List ℕ → List ℕ → ℕ → List ℕ
-callOffsets calls ent n = marks (callVar calls) (λ k. k * 4) ent n
+callOffsets calls ent n = tableOffsets 4 calls ent n
 
--- the first bad entry, or the number of entries
 abbrev pub badRead : List ℕ → List ℕ → List ℕ → List ℕ → ℕ
-badRead reads target ws cls = first (λ k. not (readGood reads target ws (readClasses reads cls k) k)) (readCount reads)
+badRead reads target ws cls = badEntry 3 2 (readGood reads target ws) reads cls
 
 abbrev pub badCall : List ℕ → List ℕ → List ℕ → List ℕ → ℕ
-badCall calls cargs target cls = first (λ k. not (callGood calls cargs target (callClasses calls cls k) k)) (callCount calls)
+badCall calls cargs target cls = badEntry 4 3 (callGood calls cargs target) calls cls

@@ -1,4 +1,4 @@
-// Roots: the images of the source's roots, then a root for each pair of reads that needs one.
+// Congruence of reads: a root for each pair of read entries that needs one.
 ghost use mathlib.Core.Path.{_≡_};
 ghost use mathlib.Core.Bool.{not};
 ghost use mathlib.Core.List.{[], _∷_};
@@ -9,42 +9,15 @@ ghost use Rattle.lists.specs.Tests.{all};
 ghost use Rattle.rows.specs.Row.{rowCount, rowAt};
 ghost use Rattle.lowering.specs.Images.{unequalConst};
 ghost use Rattle.lowering.specs.Tables.{readCount, readArray, readIndex};
-ghost use Rattle.lowering.specs.Roots.{badLead, leads, pairsWith, readsNeed, readPairs, congruent, readRoot};
+ghost use Rattle.lowering.specs.Roots.{pairsWith, readsNeed, readPairs, congruent, readRoot};
 ghost use Rattle.images.specs.Bits.{BitsWithin, ConstsWithin};
-ghost use Rattle.pairs.specs.Shape.{antecedent};
 ghost use Rattle.pairs.specs.Walk.{walked, ReadsIn};
-use images::MAX;
 use rows::Graph;
 
 // The result of a walk along congruence roots: all stand, and the position after those that do.
 pub struct Cong {
     pub ok: bool,
     pub next: usize,
-}
-
-// The row under the Not of root, BoolOr(Not(..), Eq(vp, vq)), or MAX.
-pub fn implication_shape(target: &[u64], root: u64, vp: u64, vq: u64) -> u64
-    ensures row { λ r. ⌜ r ≡ antecedent (now (target .entry)) vp vq root ⌝ }
-{
-    let n = rows::row_count(Graph::Target, target) as u64;
-    if n <= root {
-        return MAX;
-    }
-    let d = rows::row(Graph::Target, target, root as usize);
-    if d[0] != 31 {
-        return MAX;
-    }
-    if !images::is_eq(target, vp, vq, d[2]) {
-        return MAX;
-    }
-    if n <= d[1] {
-        return MAX;
-    }
-    let dn = rows::row(Graph::Target, target, d[1] as usize);
-    if dn[0] != 29 {
-        return MAX;
-    }
-    dn[1]
 }
 
 // Row rp and row b are unequal constants.
@@ -56,36 +29,6 @@ fn const_pair_unequal(target: &[u64], tbits: &[u8], rp: [u64; 5], b: u64) -> boo
     images::unequal_const(tbits, rp, rows::row(Graph::Target, target, b as usize))
 }
 
-// ---- the images of the source's roots
-fn root_leads(map: &[u64], eroots: &[u64], troots: &[u64], k: usize) -> bool
-    requires { ⌜ k < length (now eroots) ⌝ }
-    ensures test { λ r. ⌜ r ≡ leads (now (map .entry)) (now (eroots .entry)) (now (troots .entry)) k ⌝ }
-{
-    let image = images::map_at(map, eroots[k]);
-    if image == MAX {
-        return false;
-    }
-    if troots.len() <= k {
-        return false;
-    }
-    troots[k] == image
-}
-
-// The position of the first source root without its image in its place, or the number of source roots.
-pub fn ext_roots_corr(eroots: &[u64], map: &[u64], troots: &[u64]) -> usize
-    ensures position { λ r. ⌜ r ≡ badLead (now (map .entry)) (now (eroots .entry)) (now (troots .entry)) ⌝ }
-{
-    let mut k = 0;
-    while k < eroots.len() {
-        if !root_leads(map, eroots, troots, k) {
-            return k;
-        }
-        k += 1;
-    }
-    k
-}
-
-// ---- the pairs of reads
 // Entry l is of array aid, and row rp and its index are not unequal constants.
 fn read_needs(reads: &[u64], target: &[u64], tbits: &[u8], aid: u64, rp: [u64; 5], l: usize) -> bool
     requires { ⌜ (l * 3 + 3 ≤ length (now reads)) × (readIndex (now reads) l < rowCount Graph.Target (now target)) ⌝ }
@@ -116,7 +59,7 @@ fn read_stands(
     if troots.len() <= idx {
         return false;
     }
-    let a = implication_shape(target, troots[idx], vp, vq);
+    let a = leads::implication_shape(target, troots[idx], vp, vq);
     images::is_eq(target, xp, xq, a)
 }
 

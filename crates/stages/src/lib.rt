@@ -62,7 +62,7 @@ pub fn roots(
     ensures answer { λ r. ⌜ r ≡ firstRefusal (rootAnswers (entries (now (reads .entry)) (now (calls .entry)) (now (cargs .entry)))
         (targetGraph (now (target .entry)) (now (tbits .entry))) (now (map .entry)) (now (eroots .entry)) (now (troots .entry))) ⌝ }
 {
-    let lead = pairs::ext_roots_corr(eroots, map, troots);
+    let lead = leads::ext_roots_corr(eroots, map, troots);
     if lead < eroots.len() {
         return Answer::RootMismatch(lead as u64);
     }

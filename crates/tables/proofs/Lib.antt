@@ -1,5 +1,1 @@
-pub mod Order
 pub mod Marks
-pub mod ReadTable
-pub mod CallTable
-pub mod Search

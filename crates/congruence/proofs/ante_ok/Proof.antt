@@ -1,4 +1,4 @@
--- `congruence::ante_ok` meets its contract: what is left of the nest says what the whole says. Assumes nothing.
+-- Invariant: the nest that is left, from row cur with l + 1 equalities, says what the whole says. Assumes nothing.
 use Prim.Native.Nat.{_<_, _-_, _+_}
 use mathlib.Core.Path.{_≡_, refl, _∙_, sym}
 use native.Mathlib.Nat.{add-zero}
@@ -7,7 +7,7 @@ use borrow.Author.Needs.{needs}
 use borrow.Author.Tests.{eq-eqb, ne-eqb, not-true, not-false}
 use lib.ListN.{getD}
 use Rattle.lowering.specs.Roots.{allEqual}
-use Rattle.pairs.proofs.Shape.{all-out}
+use Rattle.leads.proofs.Shape.{all-out}
 use Rattle.congruence.proofs.Nest.{all-one, all-tag, all-last, all-rest}
 use Rattle.congruence.proofs.ante_ok.Statement.{statement}
 use Rattle.congruence.proofs.ante_ok.Tie as tie

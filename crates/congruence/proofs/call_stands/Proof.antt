@@ -1,4 +1,4 @@
--- `congruence::call_stands` meets its contract. Assumes nothing.
+-- The position, a number of arguments, then the root by its antecedent. Assumes nothing.
 use mathlib.Core.Path.{_∙_, sym}
 use native.Mathlib.Omega.{arith}
 use Prim.Native.Nat.{_<_, _≤_}
@@ -9,7 +9,7 @@ use borrow.Author.Tests.{lt-ltb, le-ltb}
 use Rattle.lists.specs.Tests.{all}
 use Rattle.lowering.specs.Roots.{congruent}
 use Rattle.lists.proofs.Choice.{last-test}
-use Rattle.pairs.proofs.Shape.{by-antecedent}
+use Rattle.leads.proofs.Shape.{by-antecedent}
 use borrow.Author.Needs.{needs}
 use Rattle.congruence.proofs.call_stands.Statement.{statement}
 use Rattle.congruence.proofs.call_stands.Tie as tie

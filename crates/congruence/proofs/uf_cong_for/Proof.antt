@@ -1,16 +1,17 @@
--- `congruence::uf_cong_for` meets its contract: what is left of the pairs gives the whole answer. Assumes nothing.
+-- Invariant: the pairs of entry k with entries from l on give what all its pairs give. Assumes nothing.
 use Prim.Native.Nat.{_+_, _*_, _≤_, _-_}
 use mathlib.Core.Path.{_≡_, refl, _∙_, sym}
 use mathlib.Core.Logic.{⊎-elim}
 use native.Mathlib.Omega.{arith}
 use borrow.Author.Needs.{needs}
-use borrow.Author.Tests.{eqb-true, not-true, not-false}
+use borrow.Author.Tests.{not-true, not-false}
 use lib.ListN.{length}
-use Rattle.lists.proofs.Tests.{all-true}
 use Rattle.lowering.specs.Tables.{callCount, callStart, argCount, sameFunction}
 use Rattle.lowering.specs.Roots.{pair, pairsWith, callRoot, rootAt}
+use Rattle.keys.proofs.Keys.{function-at}
 use Rattle.pairs.specs.Walk.{walked}
 use Rattle.pairs.proofs.Walk.{row-end, row-skip, row-on, row-stop, root-inside}
+use Rattle.congruence.proofs.Inside.{same-count}
 use Rattle.congruence.proofs.uf_cong_for.Statement.{statement}
 use Rattle.congruence.proofs.uf_cong_for.Tie as tie
 
@@ -22,76 +23,90 @@ Inv-loop calls cargs target troots k idx0 n at vp fid sp count idx₀ l₀ idx l
 abbrev μ-loop : tie.MeasureT-loop
 μ-loop calls cargs target troots k idx0 n at vp fid sp count idx₀ l₀ idx l = n - l
 
+-- places, seen from the loop: the start, and after the count
+abbrev start : tie.At-loop Inv-loop μ-loop → tie.Start Inv-loop μ-loop
+start a = a .before .before .before .before .before .before .before .before .before .before
+
+abbrev counted : tie.At-loop Inv-loop μ-loop → tie.After-call-count Inv-loop μ-loop
+counted a = a .before .before .before .before .before
+
+-- entry k is whole
+whole : (p : tie.Start Inv-loop μ-loop) → p .args .k * 4 + 4 ≤ length (p .args .calls .now)
+whole p = p .pre .0 _ (p .pre .1) .0
+
 call-count-requires : tie.Need-call-count-requires Inv-loop μ-loop
 call-count-requires c κs = search needs
 
 mul-at : tie.Need-mul-at Inv-loop μ-loop
-mul-at c = omega (arith, c .before .before .before .before .before .pre .0 _ (c .before .before .before .before .before .pre .1) .0)
+mul-at c = omega (arith, whole (c .before .before .before .before .before))
 
 mul-vp : tie.Need-mul-vp Inv-loop μ-loop
-mul-vp c = omega (arith, c .before .before .before .before .before .pre .0 _ (c .before .before .before .before .before .pre .1) .0)
+mul-vp c = omega (arith, whole (c .before .before .before .before .before))
 
 shared-slice-read-vp : tie.Need-shared-slice-read-vp Inv-loop μ-loop
-shared-slice-read-vp c = omega (arith, c .before .before .before .before .before .before .pre .0 _ (c .before .before .before .before .before .before .pre .1) .0)
+shared-slice-read-vp c = omega (arith, whole (c .before .before .before .before .before .before))
 
 add-fid : tie.Need-add-fid Inv-loop μ-loop
-add-fid c = omega (arith, c .before .before .before .before .before .before .pre .0 _ (c .before .before .before .before .before .before .pre .1) .0)
+add-fid c = omega (arith, whole (c .before .before .before .before .before .before))
 
 mul-fid : tie.Need-mul-fid Inv-loop μ-loop
-mul-fid c = omega (arith, c .before .before .before .before .before .before .pre .0 _ (c .before .before .before .before .before .before .pre .1) .0)
+mul-fid c = omega (arith, whole (c .before .before .before .before .before .before))
 
 shared-slice-read-fid : tie.Need-shared-slice-read-fid Inv-loop μ-loop
-shared-slice-read-fid c = omega (arith, c .before .before .before .before .before .before .before .pre .0 _ (c .before .before .before .before .before .before .before .pre .1) .0)
+shared-slice-read-fid c = omega (arith, whole (c .before .before .before .before .before .before .before))
 
 add-sp : tie.Need-add-sp Inv-loop μ-loop
-add-sp c = omega (arith, c .before .before .before .before .before .before .before .pre .0 _ (c .before .before .before .before .before .before .before .pre .1) .0)
+add-sp c = omega (arith, whole (c .before .before .before .before .before .before .before))
 
 mul-sp : tie.Need-mul-sp Inv-loop μ-loop
-mul-sp c = omega (arith, c .before .before .before .before .before .before .before .pre .0 _ (c .before .before .before .before .before .before .before .pre .1) .0)
+mul-sp c = omega (arith, whole (c .before .before .before .before .before .before .before))
 
 shared-slice-read-sp : tie.Need-shared-slice-read-sp Inv-loop μ-loop
-shared-slice-read-sp c = omega (arith, c .before .before .before .before .before .before .before .before .pre .0 _ (c .before .before .before .before .before .before .before .before .pre .1) .0)
+shared-slice-read-sp c = omega (arith, whole (c .before .before .before .before .before .before .before .before))
 
 add-count : tie.Need-add-count Inv-loop μ-loop
-add-count c = omega (arith, c .before .before .before .before .before .before .before .before .pre .0 _ (c .before .before .before .before .before .before .before .before .pre .1) .0)
+add-count c = omega (arith, whole (c .before .before .before .before .before .before .before .before))
 
 mul-count : tie.Need-mul-count Inv-loop μ-loop
-mul-count c = omega (arith, c .before .before .before .before .before .before .before .before .pre .0 _ (c .before .before .before .before .before .before .before .before .pre .1) .0)
+mul-count c = omega (arith, whole (c .before .before .before .before .before .before .before .before))
 
 shared-slice-read-count : tie.Need-shared-slice-read-count Inv-loop μ-loop
-shared-slice-read-count c = omega (arith, c .before .before .before .before .before .before .before .before .before .pre .0 _ (c .before .before .before .before .before .before .before .before .before .pre .1) .0)
+shared-slice-read-count c = omega (arith, whole (c .before .before .before .before .before .before .before .before .before))
 
 add-l : tie.Need-add-l Inv-loop μ-loop
-add-l c = omega (arith, c .before .before .before .before .before .before .before .before .before .pre .0 _ (c .before .before .before .before .before .before .before .before .before .pre .1) .0)
+add-l c = omega (arith, whole (c .before .before .before .before .before .before .before .before .before))
 
 loop-holds : tie.Need-loop-holds Inv-loop μ-loop
 loop-holds c = (omega (arith, c .before .before .before .before .call-count .ensures), refl)
 
 -- entry l is whole and its arguments lie in their list
 entry : (c : tie.In-loop Inv-loop μ-loop)
-    → let s = c .before .before .before .before .before .before .before .before .before .before .before .args in
+    → let s = start (c .before) .args in
     let l = c .before .loop .l in
     (l * 4 + 4 ≤ length (s .calls .now)) × (callStart (s .calls .now) l + argCount (s .calls .now) l ≤ length (s .cargs .now))
-entry c = c .before .before .before .before .before .before .before .before .before .before .before .pre .0 _ (rw (c .before .before .before .before .before .before .call-count .ensures) at (c .loop-test .taken))
-
-call-needs-requires : tie.Need-call-needs-requires Inv-loop μ-loop
-call-needs-requires c κs = entry c .0
-
--- what the calls test
-needs-is : (c : tie.After-call-needs Inv-loop μ-loop)
-    → let s = c .before .before .before .before .before .before .before .before .before .before .before .before .args in
-    c .call-needs .result ≡ sameFunction (s .calls .now) (s .k) (c .before .before .loop .l)
-unfolding sameFunction
-needs-is c = c .call-needs .ensures
-
-stands-is : (c : tie.After-call-stands Inv-loop μ-loop)
-    → let s = c .before .before .before .before .before .before .before .before .before .before .before .before .before .before .before .before .args in
-    c .call-stands .result ≡ rootAt (s .troots .now) (callRoot (s .calls .now) (s .cargs .now) (s .target .now)) (c .before .before .before .before .before .before .loop .idx) (pair (s .k) (c .before .before .before .before .before .before .loop .l))
-unfolding rootAt
-stands-is c = c .call-stands .ensures
+entry c = start (c .before) .pre .0 _ (rw (counted (c .before) .call-count .ensures) at (c .loop-test .taken))
 
 mul-o : tie.Need-mul-o Inv-loop μ-loop
-mul-o c = omega (arith, entry (c .before .before) .0)
+mul-o c = omega (arith, entry c .0)
+
+function-is-requires : tie.Need-function-is-requires Inv-loop μ-loop
+function-is-requires c κs = entry c .0
+
+-- what the calls test
+needs-is : (c : tie.After-function-is Inv-loop μ-loop)
+    → let a = c .before .before in
+    let s = start a .args in
+    c .function-is .result ≡ sameFunction (s .calls .now) (s .k) (a .loop .l)
+needs-is c =
+    let a = c .before .before in
+    c .function-is .ensures ∙ function-at (start a .args .calls .now) (start a .args .k) (a .loop .l)
+
+stands-is : (c : tie.After-call-stands Inv-loop μ-loop)
+    → let a = c .before .before .before .before .before .before in
+    let s = start a .args in
+    c .call-stands .result ≡ rootAt (s .troots .now) (callRoot (s .calls .now) (s .cargs .now) (s .target .now)) (a .loop .idx) (pair (s .k) (a .loop .l))
+unfolding rootAt
+stands-is c = c .call-stands .ensures
 
 add-sq : tie.Need-add-sq Inv-loop μ-loop
 add-sq c = omega (arith, entry (c .before .before) .0)
@@ -110,24 +125,23 @@ shared-slice-read-call-stands c = omega (arith, entry (c .before .before .before
 
 call-stands-requires : tie.Need-call-stands-requires Inv-loop μ-loop
 call-stands-requires c κs =
-    let at-call-count = c .before .before .before .before .before .before .before .before .before .before in
-    let at-start = at-call-count .before .before .before .before .before in
-    let s = at-start .args in
-    let e = all-true _ (sym (c .before .before .before .call-needs .ensures) ∙ c .before .before .if1 .taken) .1 .0 in
-    (at-start .pre .0 _ (at-start .pre .1) .1, rw (eqb-true (argCount (s .calls .now) (s .k)) (argCount (s .calls .now) (c .before .before .before .before .before .loop .l)) e) (entry (c .before .before .before .before) .1))
+    let in-loop = c .before .before .before .before in
+    let p = start (in-loop .before) in
+    let s = p .args in
+    let l = in-loop .before .loop .l in
+    let e = same-count (s .calls .now) (s .k) l (sym (needs-is (c .before .before .before)) ∙ c .before .before .if1 .taken) in
+    (p .pre .0 _ (p .pre .1) .1, rw e (entry in-loop .1))
 
 returns : tie.Need-returns Inv-loop μ-loop
 returns c =
     let in-loop = c .before .before .before .before .before .before in
     let at-loop = in-loop .before in
-    let at-call-count = at-loop .before .before .before .before .before in
-    let at-start = at-call-count .before .before .before .before .before in
-    let s = at-start .args in
+    let s = start at-loop .args in
     let l = at-loop .loop in
     sym
     (l .inv .1
     ∙ row-stop (s .troots .now) (callRoot (s .calls .now) (s .cargs .now) (s .target .now)) (sameFunction (s .calls .now)) (callCount (s .calls .now)) (s .k) (l .idx) (l .l)
-    (rw (at-call-count .call-count .ensures) at (in-loop .loop-test .taken)) (sym (needs-is (c .before .before .before .before .before)) ∙ c .before .before .before .before .if1 .taken) (sym (stands-is (c .before)) ∙ not-true _ (c .if2 .taken)))
+    (rw (counted at-loop .call-count .ensures) at (in-loop .loop-test .taken)) (sym (needs-is (c .before .before .before .before .before)) ∙ c .before .before .before .before .if1 .taken) (sym (stands-is (c .before)) ∙ not-true _ (c .if2 .taken)))
 
 add-idx : tie.Need-add-idx Inv-loop μ-loop
 add-idx c = omega (arith, root-inside _ _ _ _ (sym (stands-is (c .before)) ∙ not-false _ (c .if2 .left)))
@@ -141,11 +155,10 @@ loop-less c = omega arith
 loop-again : tie.Need-loop-again Inv-loop μ-loop
 unfolding rootAt
 loop-again c =
-    let at-call-count = c .before .before .before .before .before .before .before .before in
-    let at-start = at-call-count .before .before .before .before .before in
-    let s = at-start .args in
-    let l = c .before .before .before .loop in
-    let h = rw (at-call-count .call-count .ensures) at (c .before .before .loop-test .taken) in (
+    let at-loop = c .before .before .before in
+    let s = start at-loop .args in
+    let l = at-loop .loop in
+    let h = rw (counted at-loop .call-count .ensures) at (c .before .before .loop-test .taken) in (
       omega arith,
       l .inv .1 ∙ ⊎-elim
           (λ w. rw (w .5) (row-on (s .troots .now) (callRoot (s .calls .now) (s .cargs .now) (s .target .now)) (sameFunction (s .calls .now)) (callCount (s .calls .now)) (s .k) (l .idx) (l .l) h (sym (needs-is (c .before)) ∙ w .0 .taken) (sym (w .3 .ensures) ∙ not-false _ (w .4 .left))))
@@ -155,9 +168,9 @@ loop-again c =
 
 returns-2 : tie.Need-returns-2 Inv-loop μ-loop
 returns-2 c =
-    let s = c .before .before .before .before .before .before .before .before .before .before .before .args in
+    let s = start (c .before) .args in
     let l = c .before .loop in
-    sym (l .inv .1 ∙ row-end (s .troots .now) (callRoot (s .calls .now) (s .cargs .now) (s .target .now)) (sameFunction (s .calls .now)) (callCount (s .calls .now)) (s .k) (l .idx) (l .l) (rw (c .before .before .before .before .before .before .call-count .ensures) at (c .loop-test .left)))
+    sym (l .inv .1 ∙ row-end (s .troots .now) (callRoot (s .calls .now) (s .cargs .now) (s .target .now)) (sameFunction (s .calls .now)) (callCount (s .calls .now)) (s .k) (l .idx) (l .l) (rw (counted (c .before) .call-count .ensures) at (c .loop-test .left)))
 
 pub uf-cong-for-spec : {M : Type 1} → statement M
 uf-cong-for-spec =
@@ -180,8 +193,8 @@ uf-cong-for-spec =
     shared-slice-read-count
     add-l
     loop-holds
-    call-needs-requires
     mul-o
+    function-is-requires
     add-sq
     mul-sq
     shared-slice-read-sq

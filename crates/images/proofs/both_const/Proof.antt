@@ -1,4 +1,4 @@
--- `images::both_const` meets its contract. Assumes nothing.
+-- Both tags in the definition's order. Assumes nothing.
 use borrow.Author.Tests.{not-true, not-false}
 use Rattle.images.proofs.Constants.{both-no, both-rest}
 use borrow.Author.Needs.{needs}

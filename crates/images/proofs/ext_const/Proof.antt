@@ -1,4 +1,4 @@
--- `images::ext_const` meets its contract. Assumes nothing.
+-- The tag decides: start and width of a constant, else zeros. Assumes nothing.
 use borrow.Author.Tests.{eq-eqb, ne-eqb}
 use borrow.Author.Needs.{needs}
 use Rattle.images.proofs.ext_const.Statement.{statement}

@@ -1,4 +1,4 @@
--- `images::is_eq` meets its contract. Assumes nothing.
+-- A row past the target is no equality; else the row is read and compared. Assumes nothing.
 use mathlib.Core.Path.{_∙_, sym}
 use borrow.Author.Needs.{needs}
 use Rattle.images.proofs.Equality.{eq-out, eq-in}

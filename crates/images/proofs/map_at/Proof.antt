@@ -1,4 +1,4 @@
--- `images::map_at` meets its contract. Assumes nothing.
+-- Past the map the default counts, within it the element. Assumes nothing.
 use mathlib.Core.Path.{sym}
 use borrow.Author.Needs.{needs}
 use lib.ListN.{List·getD-eq-default}

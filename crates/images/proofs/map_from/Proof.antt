@@ -1,4 +1,4 @@
--- `images::map_from` meets its contract: an arm is the definition's choice at its tag. Assumes nothing.
+-- An arm is the definition's choice at its tag. Assumes nothing.
 use borrow.Author.Needs.{needs}
 use borrow.Author.Tests.{ne-eqb, lt-ltb, le-ltb}
 use Rattle.images.proofs.map_from.Statement.{statement}

@@ -1,4 +1,4 @@
--- `images::row_is_eq` meets its contract. Assumes nothing.
+-- The row is compared with the words of Eq(a, b). Assumes nothing.
 use borrow.Author.Needs.{needs}
 use Rattle.lowering.specs.Images.{rowIs}
 use Rattle.images.proofs.row_is_eq.Statement.{statement}

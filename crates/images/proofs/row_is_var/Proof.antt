@@ -1,4 +1,4 @@
--- `images::row_is_var` meets its contract. Assumes nothing.
+-- The row is compared with the words of Var(w). Assumes nothing.
 use borrow.Author.Needs.{needs}
 use Rattle.lowering.specs.Images.{rowIs}
 use Rattle.images.proofs.row_is_var.Statement.{statement}

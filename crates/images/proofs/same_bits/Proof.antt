@@ -1,4 +1,4 @@
--- `images::same_bits` meets its contract. Assumes nothing.
+-- Both rows are constants, so their fields are starts and widths; the stretches of bits lie in their lists. Assumes nothing.
 use mathlib.Core.Path.{sym, ap, _∙_}
 use Rattle.images.specs.declared.Constant.{Constant}
 use Rattle.images.proofs.Constants.{fields, same-other-width, same-by-bits, stretches}

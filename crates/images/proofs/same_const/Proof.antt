@@ -1,4 +1,4 @@
--- `images::same_const` meets its contract. Assumes nothing.
+-- No two constants, or the test of their widths and bits. Assumes nothing.
 use mathlib.Core.Path.{_∙_, sym}
 use borrow.Author.Needs.{needs}
 use borrow.Author.Tests.{not-true, not-false}

@@ -1,4 +1,4 @@
--- `images::unequal_const` meets its contract. Assumes nothing.
+-- No two constants, or the test of their widths and bits turned round. Assumes nothing.
 use mathlib.Core.Path.{_∙_, sym, ap}
 use mathlib.Core.Bool.{not}
 use borrow.Author.Needs.{needs}

@@ -1,4 +1,4 @@
--- `pairs::array_cong_for` meets its contract: what is left of the pairs gives the whole answer. Assumes nothing.
+-- Invariant: the pairs of entry k with entries from l on give what all its pairs give. Assumes nothing.
 use Prim.Native.Nat.{_+_, _*_, _≤_, _<_, _-_}
 use mathlib.Core.Path.{_≡_, refl, _∙_, sym}
 use mathlib.Core.Logic.{⊎-elim}
@@ -23,65 +23,80 @@ Inv-loop reads target tbits troots k idx0 n at vp aid xp rp idx₀ l₀ idx l =
 abbrev μ-loop : tie.MeasureT-loop
 μ-loop reads target tbits troots k idx0 n at vp aid xp rp idx₀ l₀ idx l = n - l
 
+-- places, seen from the loop: the start, and after the count
+abbrev start : tie.At-loop Inv-loop μ-loop → tie.Start Inv-loop μ-loop
+start a = a .before .before .before .before .before .before .before .before .before .before
+
+abbrev counted : tie.At-loop Inv-loop μ-loop → tie.After-read-count Inv-loop μ-loop
+counted a = a .before .before .before .before .before
+
+-- entry k is whole
+whole : (p : tie.Start Inv-loop μ-loop) → p .args .k * 3 + 3 ≤ length (p .args .reads .now)
+whole p = p .pre .0 _ (p .pre .1 .1) .0
+
 read-count-requires : tie.Need-read-count-requires Inv-loop μ-loop
 read-count-requires c κs = search needs
 
 mul-at : tie.Need-mul-at Inv-loop μ-loop
-mul-at c = omega (arith, c .before .before .before .before .before .pre .0 _ (c .before .before .before .before .before .pre .1 .1) .0)
+mul-at c = omega (arith, whole (c .before .before .before .before .before))
 
 mul-vp : tie.Need-mul-vp Inv-loop μ-loop
-mul-vp c = omega (arith, c .before .before .before .before .before .pre .0 _ (c .before .before .before .before .before .pre .1 .1) .0)
+mul-vp c = omega (arith, whole (c .before .before .before .before .before))
 
 shared-slice-read-vp : tie.Need-shared-slice-read-vp Inv-loop μ-loop
-shared-slice-read-vp c = omega (arith, c .before .before .before .before .before .before .pre .0 _ (c .before .before .before .before .before .before .pre .1 .1) .0)
+shared-slice-read-vp c = omega (arith, whole (c .before .before .before .before .before .before))
 
 add-aid : tie.Need-add-aid Inv-loop μ-loop
-add-aid c = omega (arith, c .before .before .before .before .before .before .pre .0 _ (c .before .before .before .before .before .before .pre .1 .1) .0)
+add-aid c = omega (arith, whole (c .before .before .before .before .before .before))
 
 mul-aid : tie.Need-mul-aid Inv-loop μ-loop
-mul-aid c = omega (arith, c .before .before .before .before .before .before .pre .0 _ (c .before .before .before .before .before .before .pre .1 .1) .0)
+mul-aid c = omega (arith, whole (c .before .before .before .before .before .before))
 
 shared-slice-read-aid : tie.Need-shared-slice-read-aid Inv-loop μ-loop
-shared-slice-read-aid c = omega (arith, c .before .before .before .before .before .before .before .pre .0 _ (c .before .before .before .before .before .before .before .pre .1 .1) .0)
+shared-slice-read-aid c = omega (arith, whole (c .before .before .before .before .before .before .before))
 
 add-xp : tie.Need-add-xp Inv-loop μ-loop
-add-xp c = omega (arith, c .before .before .before .before .before .before .before .pre .0 _ (c .before .before .before .before .before .before .before .pre .1 .1) .0)
+add-xp c = omega (arith, whole (c .before .before .before .before .before .before .before))
 
 mul-xp : tie.Need-mul-xp Inv-loop μ-loop
-mul-xp c = omega (arith, c .before .before .before .before .before .before .before .pre .0 _ (c .before .before .before .before .before .before .before .pre .1 .1) .0)
+mul-xp c = omega (arith, whole (c .before .before .before .before .before .before .before))
 
 shared-slice-read-xp : tie.Need-shared-slice-read-xp Inv-loop μ-loop
-shared-slice-read-xp c = omega (arith, c .before .before .before .before .before .before .before .before .pre .0 _ (c .before .before .before .before .before .before .before .before .pre .1 .1) .0)
+shared-slice-read-xp c = omega (arith, whole (c .before .before .before .before .before .before .before .before))
 
 row-requires : tie.Need-row-requires Inv-loop μ-loop
-row-requires c κs = c .before .before .before .before .before .before .before .before .pre .0 _ (c .before .before .before .before .before .before .before .before .pre .1 .1) .1
+row-requires c κs = let p = c .before .before .before .before .before .before .before .before .pre in p .0 _ (p .1 .1) .1
 
 add-l : tie.Need-add-l Inv-loop μ-loop
-add-l c = omega (arith, c .before .before .before .before .before .before .before .before .before .pre .0 _ (c .before .before .before .before .before .before .before .before .before .pre .1 .1) .0)
+add-l c = omega (arith, whole (c .before .before .before .before .before .before .before .before .before))
 
 loop-holds : tie.Need-loop-holds Inv-loop μ-loop
 loop-holds c = (omega (arith, c .before .before .before .before .read-count .ensures), refl)
 
 -- entry l is whole and its index is a row
 entry : (c : tie.In-loop Inv-loop μ-loop)
-    → let s = c .before .before .before .before .before .before .before .before .before .before .before .args in
+    → let s = start (c .before) .args in
     let l = c .before .loop .l in
     (l * 3 + 3 ≤ length (s .reads .now)) × (readIndex (s .reads .now) l < rowCount Target (s .target .now))
-entry c = c .before .before .before .before .before .before .before .before .before .before .before .pre .0 _ (rw (c .before .before .before .before .before .before .read-count .ensures) at (c .loop-test .taken))
+entry c = start (c .before) .pre .0 _ (rw (counted (c .before) .read-count .ensures) at (c .loop-test .taken))
 
 read-needs-requires : tie.Need-read-needs-requires Inv-loop μ-loop
-read-needs-requires c κs = (entry c, (rw (c .before .before .row .ensures) (c .before .before .before .before .before .before .before .before .before .before .before .pre .1 .0 _ (c .before .before .before .before .before .before .before .before .before .before .before .pre .0 _ (c .before .before .before .before .before .before .before .before .before .before .before .pre .1 .1) .1)), c .before .before .before .before .before .before .before .before .before .before .before .pre .1 .0 _ (entry c .1)))
+read-needs-requires c κs =
+    let p = start (c .before) .pre in
+    (entry c, (rw (c .before .before .row .ensures) (p .1 .0 _ (p .0 _ (p .1 .1) .1)), p .1 .0 _ (entry c .1)))
 
 -- what the calls test
 needs-is : (c : tie.After-read-needs Inv-loop μ-loop)
-    → let s = c .before .before .before .before .before .before .before .before .before .before .before .before .args in
-    c .read-needs .result ≡ readsNeed (s .reads .now) (s .target .now) (s .tbits .now) (s .k) (c .before .before .loop .l)
+    → let a = c .before .before in
+    let s = a .before .before .before .before .before .before .before .before .before .before .args in
+    c .read-needs .result ≡ readsNeed (s .reads .now) (s .target .now) (s .tbits .now) (s .k) (a .loop .l)
 unfolding readsNeed
 needs-is c = c .read-needs .ensures ∙ rw (c .before .before .before .row .ensures)
 
 stands-is : (c : tie.After-read-stands Inv-loop μ-loop)
-    → let s = c .before .before .before .before .before .before .before .before .before .before .before .before .before .before .before .before .args in
-    c .read-stands .result ≡ rootAt (s .troots .now) (readRoot (s .reads .now) (s .target .now)) (c .before .before .before .before .before .before .loop .idx) (pair (s .k) (c .before .before .before .before .before .before .loop .l))
+    → let a = c .before .before .before .before .before .before in
+    let s = start a .args in
+    c .read-stands .result ≡ rootAt (s .troots .now) (readRoot (s .reads .now) (s .target .now)) (a .loop .idx) (pair (s .k) (a .loop .l))
 unfolding rootAt
 stands-is c = c .read-stands .ensures
 
@@ -110,14 +125,12 @@ returns : tie.Need-returns Inv-loop μ-loop
 returns c =
     let in-loop = c .before .before .before .before .before .before in
     let at-loop = in-loop .before in
-    let at-read-count = at-loop .before .before .before .before .before in
-    let at-start = at-read-count .before .before .before .before .before in
-    let s = at-start .args in
+    let s = start at-loop .args in
     let l = at-loop .loop in
     sym
     (l .inv .1
     ∙ row-stop (s .troots .now) (readRoot (s .reads .now) (s .target .now)) (readsNeed (s .reads .now) (s .target .now) (s .tbits .now)) (readCount (s .reads .now)) (s .k) (l .idx) (l .l)
-    (rw (at-read-count .read-count .ensures) at (in-loop .loop-test .taken)) (sym (needs-is (c .before .before .before .before .before)) ∙ c .before .before .before .before .if1 .taken) (sym (stands-is (c .before)) ∙ not-true _ (c .if2 .taken)))
+    (rw (counted at-loop .read-count .ensures) at (in-loop .loop-test .taken)) (sym (needs-is (c .before .before .before .before .before)) ∙ c .before .before .before .before .if1 .taken) (sym (stands-is (c .before)) ∙ not-true _ (c .if2 .taken)))
 
 add-idx : tie.Need-add-idx Inv-loop μ-loop
 add-idx c = omega (arith, root-inside _ _ _ _ (sym (stands-is (c .before)) ∙ not-false _ (c .if2 .left)))
@@ -131,11 +144,10 @@ loop-less c = omega arith
 loop-again : tie.Need-loop-again Inv-loop μ-loop
 unfolding rootAt
 loop-again c =
-    let at-read-count = c .before .before .before .before .before .before .before .before in
-    let at-start = at-read-count .before .before .before .before .before in
-    let s = at-start .args in
-    let l = c .before .before .before .loop in
-    let h = rw (at-read-count .read-count .ensures) at (c .before .before .loop-test .taken) in (
+    let at-loop = c .before .before .before in
+    let s = start at-loop .args in
+    let l = at-loop .loop in
+    let h = rw (counted at-loop .read-count .ensures) at (c .before .before .loop-test .taken) in (
       omega arith,
       l .inv .1 ∙ ⊎-elim
           (λ w. rw (w .5) (row-on (s .troots .now) (readRoot (s .reads .now) (s .target .now)) (readsNeed (s .reads .now) (s .target .now) (s .tbits .now)) (readCount (s .reads .now)) (s .k) (l .idx) (l .l) h (sym (needs-is (c .before)) ∙ w .0 .taken) (sym (w .3 .ensures) ∙ not-false _ (w .4 .left))))
@@ -145,9 +157,9 @@ loop-again c =
 
 returns-2 : tie.Need-returns-2 Inv-loop μ-loop
 returns-2 c =
-    let s = c .before .before .before .before .before .before .before .before .before .before .before .args in
+    let s = start (c .before) .args in
     let l = c .before .loop in
-    sym (l .inv .1 ∙ row-end (s .troots .now) (readRoot (s .reads .now) (s .target .now)) (readsNeed (s .reads .now) (s .target .now) (s .tbits .now)) (readCount (s .reads .now)) (s .k) (l .idx) (l .l) (rw (c .before .before .before .before .before .before .read-count .ensures) at (c .loop-test .left)))
+    sym (l .inv .1 ∙ row-end (s .troots .now) (readRoot (s .reads .now) (s .target .now)) (readsNeed (s .reads .now) (s .target .now) (s .tbits .now)) (readCount (s .reads .now)) (s .k) (l .idx) (l .l) (rw (counted (c .before) .read-count .ensures) at (c .loop-test .left)))
 
 pub array-cong-for-spec : {M : Type 1} → statement M
 array-cong-for-spec =

@@ -1,4 +1,4 @@
--- `pairs::const_pair_unequal` meets its contract. Assumes nothing.
+-- The second row is read; the test is of both. Assumes nothing.
 use mathlib.Core.Path.{_∙_}
 use borrow.Author.Needs.{needs}
 use Rattle.pairs.proofs.const_pair_unequal.Statement.{statement}

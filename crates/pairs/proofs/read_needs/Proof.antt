@@ -1,4 +1,4 @@
--- `pairs::read_needs` meets its contract. Assumes nothing.
+-- The array, then the indices. Assumes nothing.
 use borrow.Author.Tests.{eq-eqb, ne-eqb}
 use Rattle.lists.specs.Tests.{all}
 use Rattle.lists.proofs.Choice.{last-test}

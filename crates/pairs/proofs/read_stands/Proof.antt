@@ -1,4 +1,4 @@
--- `pairs::read_stands` meets its contract. Assumes nothing.
+-- The position, then the root by its antecedent, which is one equality. Assumes nothing.
 use mathlib.Core.Path.{_∙_, sym}
 use native.Mathlib.Omega.{arith}
 use Prim.Native.Nat.{_≤_}
@@ -9,7 +9,7 @@ use borrow.Author.Tests.{lt-ltb, le-ltb}
 use Rattle.lists.specs.Tests.{all}
 use Rattle.lowering.specs.Roots.{allEqual}
 use Rattle.lists.proofs.Choice.{last-test}
-use Rattle.pairs.proofs.Shape.{by-antecedent}
+use Rattle.leads.proofs.Shape.{by-antecedent}
 use borrow.Author.Needs.{needs}
 use Rattle.pairs.proofs.read_stands.Statement.{statement}
 use Rattle.pairs.proofs.read_stands.Tie as tie

@@ -1,0 +1,57 @@
+-- Cut, its variable, its own tests: the definition's order. Assumes nothing.
+use mathlib.Core.Path.{_∙_, sym}
+use native.Mathlib.Omega.{arith}
+use borrow.Author.Needs.{needs}
+use borrow.Author.Tests.{not-true, not-false}
+use Rattle.entries.proofs.Entry.{good-cut, whole-at, good-taken, good-own}
+use Rattle.entries.proofs.entry_good.Statement.{statement}
+use Rattle.entries.proofs.entry_good.Tie as tie
+
+sub-if1 : tie.Need-sub-if1
+sub-if1 c = search needs
+
+returns : tie.Need-returns
+returns c =
+    let p = c .before .before .before .before .before .before in
+    good-cut (p .args .which) _ _ _ _ _ _ (p .args .w) (p .args .off) (p .pre .0 .0) (p .pre .0 .1) (omega arith)
+
+mul-free-var : tie.Need-mul-free-var
+mul-free-var c = search needs
+
+shared-slice-read-free-var : tie.Need-shared-slice-read-free-var
+shared-slice-read-free-var c = search needs
+
+free-var-requires : tie.Need-free-var-requires
+free-var-requires c κs = search needs
+
+returns-2 : tie.Need-returns-2
+returns-2 c =
+    let p = c .before .before .before .before .before .before .before .before .before in
+    good-taken (p .args .which) _ _ _ _ _ _ (p .args .w) (p .args .off) (p .pre .0 .0) (p .pre .0 .1) (omega arith)
+    (sym (c .before .free-var .ensures) ∙ not-true _ (c .if2 .taken))
+
+own-good-requires : tie.Need-own-good-requires
+own-good-requires c κs =
+    let p = c .before .before .before .before .before .before .before .before .before in
+    (whole-at (p .args .which) (p .args .table .now) (p .args .cargs .now) (p .args .target .now) (p .args .ws .now) (p .args .cls .now) (p .args .k) (p .args .w) (p .args .off) (p .pre .0 .0) (p .pre .0 .1) (omega arith), p .pre .1 .0)
+
+returns-3 : tie.Need-returns-3
+returns-3 c =
+    let p = c .before .before .before .before .before .before .before .before .before .before in
+    c .own-good .ensures
+    ∙ rw (p .pre .1 .1)
+    (good-own (p .args .which) _ _ _ _ _ _ (p .args .w) (p .args .off) (p .pre .0 .0) (p .pre .0 .1) (omega arith)
+    (sym (c .before .before .free-var .ensures) ∙ not-false _ (c .before .if2 .left)))
+
+pub entry-good-spec : {M : Type 1} → statement M
+entry-good-spec =
+    tie.close
+    (tie.spec
+    sub-if1
+    returns
+    mul-free-var
+    shared-slice-read-free-var
+    free-var-requires
+    returns-2
+    own-good-requires
+    returns-3)
