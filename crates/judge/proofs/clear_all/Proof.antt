@@ -1,22 +1,13 @@
--- `judge::clear_all` meets its contract. Assumes nothing.
+-- The first four lists by the call for Check's lists, the fifth by its own. Assumes nothing.
 use borrow.Author.Needs.{needs}
 use Rattle.judge.proofs.clear_all.Statement.{statement}
 use Rattle.judge.proofs.clear_all.Tie as tie
 
+clear-all-requires : tie.Need-clear-all-requires
+clear-all-requires c κs = search needs
+
 clear-requires : tie.Need-clear-requires
 clear-requires c κs = search needs
-
-clear-requires-2 : tie.Need-clear-requires-2
-clear-requires-2 c κs = search needs
-
-clear-requires-3 : tie.Need-clear-requires-3
-clear-requires-3 c κs = search needs
-
-clear-requires-4 : tie.Need-clear-requires-4
-clear-requires-4 c κs = search needs
-
-clear-requires-5 : tie.Need-clear-requires-5
-clear-requires-5 c κs = search needs
 
 same-length : tie.Need-same-length
 same-length c = search needs
@@ -34,17 +25,17 @@ same-length-5 : tie.Need-same-length-5
 same-length-5 c = search needs
 
 returns : tie.Need-returns
-returns c = (c .before .before .before .before .before .before .before .before .before .before .before .before .before .before .before .before .before .before .clear .ensures, (c .before .before .before .before .before .before .before .before .before .before .before .before .before .before .clear2 .ensures, (c .before .before .before .before .before .before .before .before .before .before .clear3 .ensures, (c .before .before .before .before .before .before .clear4 .ensures, c .before .before .clear5 .ensures))))
+returns c =
+    let four = c .before .before .before .before .before .before .before .before .before .before .before .before in
+    let z = four .clear-all .ensures in
+    (z .0, (z .1 .0, (z .1 .1 .0, (z .1 .1 .1, c .before .before .clear .ensures))))
 
 pub clear-all-spec : {M : Type 1} → statement M
 clear-all-spec =
     tie.close
     (tie.spec
+    clear-all-requires
     clear-requires
-    clear-requires-2
-    clear-requires-3
-    clear-requires-4
-    clear-requires-5
     same-length
     same-length-2
     same-length-3

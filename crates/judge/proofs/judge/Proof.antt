@@ -3,8 +3,8 @@ use Prim.Native.Nat.{_≤_}
 use lib.ListN.{length}
 use Rattle.checker.proofs.Outcome.{zeros-long}
 use Rattle.book.specs.Book.{sections}
-use Rattle.book.proofs.Words.{filled-rest}
-use Rattle.judge.specs.Judge.{bookWords}
+use Rattle.bodies.proofs.Words.{filled-rest}
+use Rattle.loaded.specs.Held.{bookWords}
 use mathlib.Core.Path.{refl, sym, _∙_}
 use borrow.Author.Tests.{not-true, not-false}
 use Rattle.judge.proofs.Outcome.{shape-done, room-done, check-refused, check-accepted, words-fit, by-lists, words-cleared}

@@ -1,11 +1,11 @@
--- `judge::room_answer` meets its contract. Assumes nothing.
+-- `loaded::room_answer` meets its contract. Assumes nothing.
 use mathlib.Core.Path.{sym, _∙_}
 use borrow.Author.Tests.{not-true, not-false}
-use Rattle.book.specs.Words.{listOf}
-use Rattle.judge.proofs.Outcome.{counts-refused, words-short, room-good}
+use Rattle.bodies.specs.Words.{listOf}
+use Rattle.loaded.proofs.Held.{counts-refused, words-short, room-good}
 use borrow.Author.Needs.{needs}
-use Rattle.judge.proofs.room_answer.Statement.{statement}
-use Rattle.judge.proofs.room_answer.Tie as tie
+use Rattle.loaded.proofs.room_answer.Statement.{statement}
+use Rattle.loaded.proofs.room_answer.Tie as tie
 
 word-count-requires : tie.Need-word-count-requires
 word-count-requires c κs = search needs

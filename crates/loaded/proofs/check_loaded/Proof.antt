@@ -1,9 +1,9 @@
--- `judge::check_loaded` meets its contract. Assumes nothing.
-use Rattle.judge.proofs.Outcome.{held-by}
+-- `loaded::check_loaded` meets its contract. Assumes nothing.
+use Rattle.loaded.proofs.Held.{held-by}
 use native.Mathlib.Omega.{arith}
 use borrow.Author.Needs.{needs}
-use Rattle.judge.proofs.check_loaded.Statement.{statement}
-use Rattle.judge.proofs.check_loaded.Tie as tie
+use Rattle.loaded.proofs.check_loaded.Statement.{statement}
+use Rattle.loaded.proofs.check_loaded.Tie as tie
 
 list-at-requires : tie.Need-list-at-requires
 list-at-requires c κs = search needs

@@ -1,9 +1,9 @@
--- `book::load_section` meets its contract. Assumes nothing.
+-- `bodies::load_section` meets its contract. Assumes nothing.
 use mathlib.Core.Path.{sym, _∙_}
-use Rattle.book.proofs.Words.{bits-joined, words-room, words-joined}
+use Rattle.bodies.proofs.Words.{bits-joined, words-room, words-joined}
 use borrow.Author.Needs.{needs}
-use Rattle.book.proofs.load_section.Statement.{statement}
-use Rattle.book.proofs.load_section.Tie as tie
+use Rattle.bodies.proofs.load_section.Statement.{statement}
+use Rattle.bodies.proofs.load_section.Tie as tie
 
 is-bits-requires : tie.Need-is-bits-requires
 is-bits-requires c κs = search needs

@@ -1,11 +1,11 @@
--- `book::list_at` meets its contract. Assumes nothing.
+-- `bodies::list_at` meets its contract. Assumes nothing.
 use Prim.Native.Nat.{_≤_}
 use native.Mathlib.Omega.{arith}
 use lib.ListN.{length}
-use Rattle.book.proofs.Words.{part}
+use Rattle.bodies.proofs.Words.{part}
 use borrow.Author.Needs.{needs}
-use Rattle.book.proofs.list_at.Statement.{statement}
-use Rattle.book.proofs.list_at.Tie as tie
+use Rattle.bodies.proofs.list_at.Statement.{statement}
+use Rattle.bodies.proofs.list_at.Tie as tie
 
 offset-requires : tie.Need-offset-requires
 offset-requires c κs = search needs

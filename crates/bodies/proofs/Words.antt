@@ -10,9 +10,10 @@ use lib.Seq.{take-at, drop-at, drop-drop, drop-append-add, drop-length, length-t
 use borrow.Rule.Slice.PartMut.{midOf, postOf, putMid, post-is, mid-len}
 use Rattle.lists.specs.Build.{build}
 use Rattle.lists.proofs.Build.{build-length, build-start, build-store}
 use Rattle.book.specs.Book.{wordAt, sections, contents, startOf, lengthOf, dueAt, isBits, body}
-use Rattle.book.specs.Words.{wordsOfBytes, listOf, loaded, Good}
+use Rattle.bodies.specs.Words.{wordsOfBytes, listOf, loaded}
+use Rattle.book.specs.Good.{Good}
 use Rattle.book.proofs.Shape.{good-book}
 
 -- bytes have a word for each eight
 pub words-length : (bytes : List ℕ) → length (wordsOfBytes bytes) ≡ length bytes / 8

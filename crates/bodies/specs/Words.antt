@@ -1,12 +1,10 @@
 -- The lists of words that a book holds, and all of them in one list. Assumes nothing.
 use Prim.Native.Nat.{ℕ, zero, suc, _*_, _/_}
-use mathlib.Core.Path.{_≡_}
-use mathlib.Core.Bool.{true, cond}
+use mathlib.Core.Bool.{cond}
 use mathlib.Core.List.{List, [], _++_}
 use lib.ListN.{length}
-use Rattle.answers.specs.Answer.{isAccepted}
 use Rattle.lists.specs.Build.{build}
-use Rattle.book.specs.Book.{wordAt, isBits, body, bookAnswer}
+use Rattle.book.specs.Book.{wordAt, isBits, body}
 
 -- bytes as words, "little-endian"
 abbrev pub wordsOfBytes : List ℕ → List ℕ
@@ -20,7 +18,3 @@ listOf b i = cond (isBits i) [] (wordsOfBytes (body b i))
 unfoldable pub loaded : List ℕ → ℕ → List ℕ
 loaded b zero = []
 loaded b (suc i) = loaded b i ++ listOf b i
-
--- a book of good shape
-abbrev pub Good : List ℕ → Type 0
-Good b = isAccepted (bookAnswer b) ≡ true

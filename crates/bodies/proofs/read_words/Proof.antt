@@ -1,12 +1,12 @@
--- `book::read_words` meets its contract. Assumes nothing.
+-- `bodies::read_words` meets its contract. Assumes nothing.
 use native.Mathlib.Omega.{arith}
 use Prim.Native.Nat.{_≤_, _-_, _<_}
 use lib.ListN.{length}
-use Rattle.book.proofs.Words.{read, read-none, read-more, read-all}
+use Rattle.bodies.proofs.Words.{read, read-none, read-more, read-all}
 use mathlib.Core.Path.{_≡_, refl}
 use borrow.Author.Needs.{needs}
-use Rattle.book.proofs.read_words.Statement.{statement}
-use Rattle.book.proofs.read_words.Tie as tie
+use Rattle.bodies.proofs.read_words.Statement.{statement}
+use Rattle.bodies.proofs.read_words.Tie as tie
 
 abbrev Inv-loop : tie.InvT-loop
 Inv-loop bytes out₀ n j₀ out j = (j ≤ n) × (length out ≡ length out₀) × (out ≡ read bytes out₀ j)

@@ -1,13 +1,13 @@
--- `book::offset` meets its contract. Assumes nothing.
+-- `bodies::offset` meets its contract. Assumes nothing.
 use Prim.Native.Nat.{_≤_, _-_, _+_}
 use native.Mathlib.Omega.{arith}
-use Rattle.book.proofs.Words.{loaded-none, offset-more, loaded-fits}
+use Rattle.bodies.proofs.Words.{loaded-none, offset-more, loaded-fits}
 use mathlib.Core.Path.{_≡_}
 use lib.ListN.{length}
 use borrow.Author.Needs.{needs}
-use Rattle.book.specs.Words.{loaded}
-use Rattle.book.proofs.offset.Statement.{statement}
-use Rattle.book.proofs.offset.Tie as tie
+use Rattle.bodies.specs.Words.{loaded}
+use Rattle.bodies.proofs.offset.Statement.{statement}
+use Rattle.bodies.proofs.offset.Tie as tie
 
 abbrev Inv-loop : tie.InvT-loop
 Inv-loop book i at₀ k₀ at k = (k ≤ i) × (at ≡ length (loaded book k))

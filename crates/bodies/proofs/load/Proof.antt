@@ -1,14 +1,14 @@
--- `book::load` meets its contract. Assumes nothing.
+-- `bodies::load` meets its contract. Assumes nothing.
 use mathlib.Core.Path.{_≡_, refl, _∙_}
 use Prim.Native.Nat.{_≤_, _-_, _+_}
 use native.Mathlib.Omega.{arith}
 use lib.ListN.{length}
 use borrow.Author.Needs.{needs}
 use Rattle.book.specs.Book.{sections}
-use Rattle.book.specs.Words.{loaded, listOf}
-use Rattle.book.proofs.Words.{filled, filled-none, filled-more, loaded-below}
-use Rattle.book.proofs.load.Statement.{statement}
-use Rattle.book.proofs.load.Tie as tie
+use Rattle.bodies.specs.Words.{loaded, listOf}
+use Rattle.bodies.proofs.Words.{filled, filled-none, filled-more, loaded-below}
+use Rattle.bodies.proofs.load.Statement.{statement}
+use Rattle.bodies.proofs.load.Tie as tie
 
 abbrev Inv-loop : tie.InvT-loop
 Inv-loop book words₀ i₀ words i = (i ≤ sections) × (length words ≡ length words₀) × (words ≡ filled book words₀ i)

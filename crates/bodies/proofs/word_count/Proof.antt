@@ -1,12 +1,12 @@
--- `book::word_count` meets its contract. Assumes nothing.
+-- `bodies::word_count` meets its contract. Assumes nothing.
 use mathlib.Core.Path.{_≡_, sym, _∙_}
 use mathlib.Core.Bool.{true}
 use Rattle.book.specs.Book.{isBits}
 use Rattle.book.proofs.Shape.{good-book}
-use Rattle.book.proofs.Words.{words-count}
+use Rattle.bodies.proofs.Words.{words-count}
 use borrow.Author.Needs.{needs}
-use Rattle.book.proofs.word_count.Statement.{statement}
-use Rattle.book.proofs.word_count.Tie as tie
+use Rattle.bodies.proofs.word_count.Statement.{statement}
+use Rattle.bodies.proofs.word_count.Tie as tie
 
 is-bits-requires : tie.Need-is-bits-requires
 is-bits-requires c κs = search needs
