@@ -26,9 +26,10 @@ same-length-5 c = search needs
 
 returns : tie.Need-returns
 returns c =
-    let four = c .before .before .before .before .before .before .before .before .before .before .before .before in
+    let five = c .before .before in
+    let four = five .before .before .before .before .before .before .before .before .before .before in
     let z = four .clear-all .ensures in
-    (z .0, (z .1 .0, (z .1 .1 .0, (z .1 .1 .1, c .before .before .clear .ensures))))
+    (z .0, (z .1 .0, (z .1 .1 .0, (z .1 .1 .1, five .clear .ensures))))
 
 pub clear-all-spec : {M : Type 1} → statement M
 clear-all-spec =
