@@ -5,7 +5,7 @@ use mathlib.Core.Bool.{Bool, true, false}
 use mathlib.Core.List.{List, [], _++_, append-assoc, append-nil}
 use native.Mathlib.Nat.{add-zero}
 use native.Mathlib.Omega.{arith}
-use lib.ListN.{length, set, take, drop, length-append, length-take, length-drop, take-append-drop}
+use lib.ListN.{length, set, take, drop, replicate, length-append, length-take, length-drop, take-append-drop}
 use lib.Seq.{take-at, drop-at, drop-drop, drop-append-add, drop-length, length-take-le}
 use borrow.Rule.Slice.PartMut.{midOf, postOf, putMid, post-is, mid-len}
 use Rattle.lists.specs.Build.{build}
@@ -211,3 +211,17 @@ part b ws i from end h e f g =
       inside = omega arith;
       part-is = rw (d, f, e) (list-within b sections i r h);
     }
+
+-- a list that holds a book's words has room for them
+pub words-inside : (b ws : List ℕ) → ws ≡ loaded b sections ++ drop (length (loaded b sections)) ws → length (loaded b sections) ≤ length ws
+words-inside b ws e =
+    let r = drop (length (loaded b sections)) ws in
+    let l : length ws ≡ length (loaded b sections) + length r = ap (λ (l : List ℕ). length l) e ∙ length-append (loaded b sections) r in
+    omega arith
+
+-- words that stand in front, zeros after them
+pub words-cleared : (w rest ws after : List ℕ) (n : ℕ) → ws ≡ w ++ rest → n ≡ length w → after ≡ take n ws ++ replicate (length ws - n) 0
+    → after ≡ w ++ replicate (length ws - length w) 0
+words-cleared w rest ws after n e f g =
+    let t : take n ws ≡ w = ap (take n) e ∙ rw f (take-at w rest (length w) refl) in
+    g ∙ rw (t, f)

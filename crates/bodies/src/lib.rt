@@ -1,8 +1,9 @@
 // The words that a book holds, in one list.
 ghost use mathlib.Core.Path.{_≡_};
 ghost use mathlib.Core.List.{_++_};
-ghost use Prim.Native.Nat.{_+_, _/_, _≤_, _<_};
-ghost use lib.ListN.{length, take, drop};
+ghost use mathlib.Core.Bool.{cond};
+ghost use Prim.Native.Nat.{_+_, _-_, _/_, _≤_, _<_};
+ghost use lib.ListN.{length, take, drop, replicate};
 ghost use Rattle.book.specs.Book.{sections};
 ghost use Rattle.book.specs.Good.{Good};
 ghost use Rattle.bodies.specs.Words.{wordsOfBytes, listOf, loaded};
@@ -82,4 +83,18 @@ pub fn list_at<'a>(book: &[u8], words: &'a [u64], i: usize) -> &'a [u64]
     let from = offset(book, i);
     let end = offset(book, i + 1);
     &words[from..end]
+}
+
+// A list that holds a book's words: kept, with zeros after them, or zeroed.
+pub fn leave(book: &[u8], words: &mut [u64], kept: bool)
+    requires { ⌜ Good (now book) ⌝ }
+    requires { ⌜ now words ≡ loaded (now book) sections ++ drop (length (loaded (now book) sections)) (now words) ⌝ }
+    ensures list { λ _. ⌜ now (words .exit) ≡ cond kept (loaded (now (book .entry)) sections ++ replicate (length (now (words .entry))
+        - length (loaded (now (book .entry)) sections)) 0) (replicate (length (now (words .entry))) 0) ⌝ }
+{
+    if !kept {
+        lists::clear(words);
+        return;
+    }
+    lists::clear_from(words, offset(book, book::SECTIONS));
 }

@@ -5,8 +5,7 @@ use mathlib.Core.Bool.{Bool, true, false, cond}
 use mathlib.Core.List.{List, _++_}
 use borrow.Author.Tests.{ltb-false}
 use lib.Dec.{eqb, ltb}
-use lib.ListN.{length, replicate, take}
-use lib.Seq.{take-at}
+use lib.ListN.{length, replicate}
 use Rattle.answers.specs.declared.Answer.{Answer}
 use Rattle.answers.specs.declared.Answer.the-variants.{Accepted, WorkShort, BookShape}
 use Rattle.answers.specs.Answer.{isAccepted, keeps, lent, andThen}
@@ -99,7 +98,7 @@ module _ (b ws0 ws1 cls ent words : List ℕ) where
         whole-checked : whole ≡ a
         whole-checked = let p = accepts-both counts short r in rw (g, p .0, p .1) (sym is-checked)
 
-        pub words-done : (x4 : List ℕ) → lent a words (bookWords b) ≡ x4 → judged a y0 y1 y2 y3 x4 ≡ judge b ws0 ws1 cls ent words
+        words-done : (x4 : List ℕ) → lent a words (bookWords b) ≡ x4 → judged a y0 y1 y2 y3 x4 ≡ judge b ws0 ws1 cls ent words
         words-done x4 l =
             settle a y0 y1 y2 y3 x4 whole-checked
             (ap (λ (z : Answer). lent z ws0 (widthsOfSource (held b))) is-checked ∙ sym (ap (λ (z : Outcome). z .source-widths) o))
@@ -107,14 +106,13 @@ module _ (b ws0 ws1 cls ent words : List ℕ) where
             (ap (λ (z : Answer). lent z cls (classes (held b) (sourceRows (held b)))) is-checked ∙ sym (ap (λ (z : Outcome). z .class-list) o))
             (ap (λ (z : Answer). lent z ent (offsets (held b))) is-checked ∙ sym (ap (λ (z : Outcome). z .entry-list) o)) l
 
-        pub check-refused : isAccepted a ≡ false → judged a y0 y1 y2 y3 (replicate (length words) 0) ≡ judge b ws0 ws1 cls ent words
-        check-refused n =
+        -- the words stay where Check accepts, and are zeroed where it refuses
+        pub check-done : (x4 : List ℕ)
+            → x4 ≡ cond (isAccepted a) (bookWords b ++ replicate (length words - length (bookWords b)) 0) (replicate (length words) 0)
+            → judged a y0 y1 y2 y3 x4 ≡ judge b ws0 ws1 cls ent words
+        check-done x4 e =
             let k : keeps a ≡ false = rw is-checked (keeps-rest (held b) ws0 ws1 cls ent (accepts-both counts short r .0)) in
-            words-done _ (rw (n, k))
-
-        pub check-accepted : isAccepted a ≡ true
-            → judged a y0 y1 y2 y3 (bookWords b ++ replicate (length words - length (bookWords b)) 0) ≡ judge b ws0 ws1 cls ent words
-        check-accepted n = words-done _ (rw n)
+            words-done x4 (rw k (sym e))
 
   -- room for the words
   pub words-fit : isAccepted room ≡ true → length (bookWords b) ≤ length words
@@ -129,7 +127,7 @@ pub by-lists : (a : Answer) (x0 x1 x2 x3 x4 y0 y1 y2 y3 y4 : List ℕ) (z : Judg
     → judged a y0 y1 y2 y3 y4 ≡ z → judged a x0 x1 x2 x3 x4 ≡ z
 by-lists a x0 x1 x2 x3 x4 y0 y1 y2 y3 y4 z e f g h l k = rw (e, f, g, h, l) k
 
--- the words stand in front, zeros after them
-pub words-cleared : (w rest ws after : List ℕ) (n k : ℕ) → ws ≡ w ++ rest → n ≡ length w → length ws ≡ k → after ≡ take n ws ++ replicate (length ws - n) 0
-    → after ≡ w ++ replicate (k - length w) 0
-words-cleared w rest ws after n k e f l g = let t : take n ws ≡ w = rw (e, f) (take-at w rest (length w) refl) in g ∙ rw (t, l, f)
+-- the words by the test as the code made it, in a list as long as it was lent
+pub words-left : (b x : List ℕ) (t u : Bool) (m n : ℕ) → x ≡ cond t (bookWords b ++ replicate (m - length (bookWords b)) 0) (replicate m 0) → t ≡ u → m ≡ n
+    → x ≡ cond u (bookWords b ++ replicate (n - length (bookWords b)) 0) (replicate n 0)
+words-left b x t u m n e f g = e ∙ rw (f, g)

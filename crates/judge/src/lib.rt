@@ -1,24 +1,11 @@
 // The verdict on a book: Check on the lists that it holds.
 ghost use mathlib.Core.Path.{_≡_};
 ghost use mathlib.Core.Bool.{true};
-ghost use lib.ListN.{length, replicate};
 ghost use Rattle.answers.specs.Answer.{isAccepted};
 ghost use Rattle.soundness.specs.Sound.{Sound};
 ghost use Rattle.loaded.specs.Held.{held};
 ghost use Rattle.judge.specs.Judge.{judged, judge, verdict};
 use answers::Answer;
-
-// Zeros in all five lists.
-fn clear_all(ws0: &mut [u64], ws1: &mut [u64], cls: &mut [u64], ent: &mut [u64], words: &mut [u64])
-    ensures zeros { λ _. ⌜ now (ws0 .exit) ≡ replicate (length (now (ws0 .entry))) 0 ⌝ }
-    ensures zeros_1 { λ _. ⌜ now (ws1 .exit) ≡ replicate (length (now (ws1 .entry))) 0 ⌝ }
-    ensures zeros_2 { λ _. ⌜ now (cls .exit) ≡ replicate (length (now (cls .entry))) 0 ⌝ }
-    ensures zeros_3 { λ _. ⌜ now (ent .exit) ≡ replicate (length (now (ent .entry))) 0 ⌝ }
-    ensures zeros_4 { λ _. ⌜ now (words .exit) ≡ replicate (length (now (words .entry))) 0 ⌝ }
-{
-    stages::clear_all(ws0, ws1, cls, ent);
-    lists::clear(words);
-}
 
 // A book's verdict: 20, or Check's answer on the lists that it holds; in the five lists the widths of both graphs, the classes, the entry offsets and
 // the book's words.
@@ -35,7 +22,8 @@ pub fn judge(
 {
     let shape = book::book_answer(book);
     if !answers::is_accepted(shape) {
-        clear_all(ws0, ws1, cls, ent, words);
+        stages::clear_all(ws0, ws1, cls, ent);
+        lists::clear(words);
         return shape;
     }
     let room = loaded::room_answer(
@@ -51,11 +39,7 @@ pub fn judge(
     }
     bodies::load(book, words);
     let a = loaded::check_loaded(book, words, ws0, ws1, cls, ent);
-    if !answers::is_accepted(a) {
-        lists::clear(words);
-        return a;
-    }
-    lists::clear_from(words, bodies::offset(book, book::SECTIONS));
+    bodies::leave(book, words, answers::is_accepted(a));
     a
 }
 

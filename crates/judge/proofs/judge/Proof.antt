@@ -1,17 +1,14 @@
 -- Each return is one law of proofs/Outcome: past the first test the book is good, past the second all five lists have room. Assumes nothing.
-use Prim.Native.Nat.{_≤_}
 use lib.ListN.{length}
-use Rattle.checker.proofs.Outcome.{zeros-long}
 use Rattle.book.specs.Book.{sections}
 use Rattle.bodies.proofs.Words.{filled-rest}
-use Rattle.loaded.specs.Held.{bookWords}
-use mathlib.Core.Path.{_≡_, refl, sym, _∙_}
+use mathlib.Core.Path.{_≡_, sym, _∙_}
 use mathlib.Core.Bool.{true}
 use Rattle.answers.specs.declared.Answer.{Answer}
 use Rattle.answers.specs.Answer.{isAccepted}
 use Rattle.book.specs.Good.{Good}
 use borrow.Author.Tests.{not-true, not-false}
-use Rattle.judge.proofs.Outcome.{room, shape-done, room-done, check-refused, check-accepted, words-fit, by-lists, words-cleared}
+use Rattle.judge.proofs.Outcome.{room, shape-done, room-done, check-done, words-fit, words-left, by-lists}
 use borrow.Author.Needs.{needs}
 use Rattle.judge.proofs.judge.Statement.{statement}
 use Rattle.judge.proofs.judge.Tie as tie
@@ -23,7 +20,7 @@ start c = c .before .before .before .before .before .before .before
 abbrev load-of : tie.After-check-loaded → tie.After-load
 load-of c = c .before .before .before .before .before .before .before .before
 
-abbrev check-of : tie.After-is-accepted3 → tie.After-check-loaded
+abbrev check-of : tie.After-leave-arg → tie.After-check-loaded
 check-of c = c .before .before .before .before .before .before .before .before .before
 
 -- past the first test the book is good, past the second all five lists have room
@@ -51,6 +48,9 @@ is-accepted-requires c κs = search needs
 clear-all-requires : tie.Need-clear-all-requires
 clear-all-requires c κs = search needs
 
+clear-requires : tie.Need-clear-requires
+clear-requires c κs = search needs
+
 same-length : tie.Need-same-length
 same-length c = search needs
 
@@ -68,11 +68,12 @@ same-length-5 c = search needs
 
 returns : tie.Need-returns
 returns c =
-    let cleared = c .before .before .before .before .before .before .before .before .before .before in
-    let t = cleared .before .before .before .before .before .before in
+    let last = c .before .before in
+    let four = last .before .before .before .before .before .before .before .before .before .before in
+    let t = four .before .before .before .before .before in
     let s = start (t .before .before) .args in
-    let z = cleared .clear-all .ensures in
-    by-lists _ _ _ _ _ _ _ _ _ _ _ _ (z .0) (z .1 .0) (z .1 .1 .0) (z .1 .1 .1 .0) (z .1 .1 .1 .1)
+    let z = four .clear-all .ensures in
+    by-lists _ _ _ _ _ _ _ _ _ _ _ _ (z .0) (z .1 .0) (z .1 .1 .0) (z .1 .1 .1) (last .clear .ensures)
     (shape-done (s .book .now) (s .ws0 .now) (s .ws1 .now) (s .cls .now) (s .ent .now) (s .words .now) _ (t .before .before .book-answer .ensures) (sym (t .before .is-accepted .ensures) ∙ not-true _ (t .if1 .taken)))
 
 room-answer-requires : tie.Need-room-answer-requires
@@ -103,8 +104,12 @@ check-loaded-requires c κs =
 is-accepted-requires-3 : tie.Need-is-accepted-requires-3
 is-accepted-requires-3 c κs = search needs
 
-clear-requires : tie.Need-clear-requires
-clear-requires c κs = search needs
+leave-requires : tie.Need-leave-requires
+leave-requires c κs =
+    let l = load-of (check-of (c .before)) in
+    let e = shaped (l .before .before) in
+    let s = entry e .args in
+    (good e, filled-rest (s .book .now) (s .words .now) sections _ (l .load .ensures))
 
 same-length-6 : tie.Need-same-length-6
 same-length-6 c = search needs
@@ -123,51 +128,13 @@ same-length-10 c = search needs
 
 returns-3 : tie.Need-returns-3
 returns-3 c =
-    let a = c .before .before .before .before .before in
-    let k = check-of a in
+    let a = c .before .before .before in
+    let k = check-of (a .before) in
     let l = load-of k in
     let e = l .before .before in
     let s = entry (shaped e) .args in
-    by-lists _ _ _ _ _ _ _ _ _ _ _ _ refl refl refl refl (zeros-long _ (length (s .words .now)) _ (c .before .before .clear .ensures) (l .load .kept .1 .0))
-    (check-refused (s .book .now) (s .ws0 .now) (s .ws1 .now) (s .cls .now) (s .ent .now) (s .words .now) _ (good (shaped e)) (roomy e) _ _ _ _ (k .check-loaded .ensures) (sym (a .is-accepted3 .ensures) ∙ not-true _ (c .before .before .before .before .if3 .taken)))
-
-offset-requires : tie.Need-offset-requires
-offset-requires c κs =
-    let l = load-of (check-of (c .before .before)) in
-    (search needs, good (shaped (l .before .before)))
-
-clear-from-requires : tie.Need-clear-from-requires
-clear-from-requires c κs =
-    let l = load-of (check-of (c .before .before .before)) in
-    let e = l .before .before in
-    let s = entry (shaped e) .args in
-    let h : length (bookWords (s .book .now)) ≤ length (s .words .now) = words-fit (s .book .now) (s .ws0 .now) (s .ws1 .now) (s .cls .now) (s .ent .now) (s .words .now) (roomy e) in
-    rw (c .offset .ensures, l .load .kept .1 .0) h
-
-same-length-11 : tie.Need-same-length-11
-same-length-11 c = search needs
-
-same-length-12 : tie.Need-same-length-12
-same-length-12 c = search needs
-
-same-length-13 : tie.Need-same-length-13
-same-length-13 c = search needs
-
-same-length-14 : tie.Need-same-length-14
-same-length-14 c = search needs
-
-same-length-15 : tie.Need-same-length-15
-same-length-15 c = search needs
-
-returns-4 : tie.Need-returns-4
-returns-4 c =
-    let a = c .before .before .before .before .before .before in
-    let k = check-of a in
-    let l = load-of k in
-    let e = l .before .before in
-    let s = entry (shaped e) .args in
-    by-lists _ _ _ _ _ _ _ _ _ _ _ _ refl refl refl refl (words-cleared (bookWords (s .book .now)) _ _ _ _ (length (s .words .now)) (l .load .ensures) (c .before .before .before .offset .ensures) (l .load .kept .1 .0) (c .before .before .clear-from .ensures))
-    (check-accepted (s .book .now) (s .ws0 .now) (s .ws1 .now) (s .cls .now) (s .ent .now) (s .words .now) _ (good (shaped e)) (roomy e) _ _ _ _ (k .check-loaded .ensures) (sym (a .is-accepted3 .ensures) ∙ not-false _ (c .before .before .before .before .before .if3 .left)))
+    check-done (s .book .now) (s .ws0 .now) (s .ws1 .now) (s .cls .now) (s .ent .now) (s .words .now) _ (good (shaped e)) (roomy e) _ _ _ _ (k .check-loaded .ensures) _
+    (words-left (s .book .now) _ _ _ _ (length (s .words .now)) (c .before .before .leave .ensures) (a .is-accepted3 .ensures) (l .load .kept .1 .0))
 
 pub judge-spec : {M : Type 1} → statement M
 judge-spec =
@@ -176,6 +143,7 @@ judge-spec =
     book-answer-requires
     is-accepted-requires
     clear-all-requires
+    clear-requires
     same-length
     same-length-2
     same-length-3
@@ -188,18 +156,10 @@ judge-spec =
     load-requires
     check-loaded-requires
     is-accepted-requires-3
-    clear-requires
+    leave-requires
     same-length-6
     same-length-7
     same-length-8
     same-length-9
     same-length-10
-    returns-3
-    offset-requires
-    clear-from-requires
-    same-length-11
-    same-length-12
-    same-length-13
-    same-length-14
-    same-length-15
-    returns-4)
+    returns-3)

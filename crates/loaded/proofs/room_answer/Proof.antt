@@ -1,4 +1,4 @@
--- `loaded::room_answer` meets its contract. Assumes nothing.
+-- The counts by the number of words of sections 1 and 9, then the room for all words. Assumes nothing.
 use mathlib.Core.Path.{sym, _∙_}
 use borrow.Author.Tests.{not-true, not-false}
 use Rattle.bodies.specs.Words.{listOf}
