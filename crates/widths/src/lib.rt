@@ -1,10 +1,12 @@
 // The operations Source widths, Target widths and Roots.
 ghost use mathlib.Core.Path.{_≡_};
+ghost use mathlib.Core.List.{[], _∷_};
+ghost use Rattle.answers.specs.Result.{result};
 ghost use mathlib.Core.Bool.{false};
 ghost use Prim.Native.Nat.{ℕ, _<_};
 ghost use Rattle.rows.specs.Row.{rowCount};
 ghost use Rattle.rows.specs.Encoding.{rowBad};
-ghost use Rattle.widths.specs.Widths.{out, illFormed, rowsAnswer, graphWidths, sourceWidths, targetWidths, rootsAnswer};
+ghost use Rattle.widths.specs.Widths.{illFormed, rowsAnswer, graphWidths, sourceWidths, targetWidths, rootsAnswer};
 use answers::Answer;
 use rows::Graph;
 
@@ -37,7 +39,7 @@ fn refusal(graph: Graph, g: &[u64], bits: &[u8], stop: usize) -> Answer
 
 // The widths of a graph's rows, or the first refusal by 01's order.
 fn graph_widths(graph: Graph, g: &[u64], bits: &[u8], side: &[u64], ws: &mut [u64]) -> Answer
-    ensures outcome { λ r. ⌜ out r (now (ws .exit)) ≡ graphWidths graph (now (g .entry)) (now (bits .entry)) (now (side .entry)) (now (ws .entry)) ⌝ }
+    ensures outcome { λ r. ⌜ result r (now (ws .exit) ∷ []) ≡ graphWidths graph (now (g .entry)) (now (bits .entry)) (now (side .entry)) (now (ws .entry)) ⌝ }
 {
     if rows::is_ragged(graph, g) {
         return Answer::RowCount(rows::graph_number(graph));
@@ -61,13 +63,13 @@ fn graph_widths(graph: Graph, g: &[u64], bits: &[u8], side: &[u64], ws: &mut [u6
 }
 
 pub fn source_widths(source: &[u64], bits: &[u8], side: &[u64], ws: &mut [u64]) -> Answer
-    ensures outcome { λ r. ⌜ out r (now (ws .exit)) ≡ sourceWidths (now (source .entry)) (now (bits .entry)) (now (side .entry)) (now (ws .entry)) ⌝ }
+    ensures outcome { λ r. ⌜ result r (now (ws .exit) ∷ []) ≡ sourceWidths (now (source .entry)) (now (bits .entry)) (now (side .entry)) (now (ws .entry)) ⌝ }
 {
     graph_widths(Graph::Source, source, bits, side, ws)
 }
 
 pub fn target_widths(target: &[u64], bits: &[u8], ws: &mut [u64]) -> Answer
-    ensures outcome { λ r. ⌜ out r (now (ws .exit)) ≡ targetWidths (now (target .entry)) (now (bits .entry)) (now (ws .entry)) ⌝ }
+    ensures outcome { λ r. ⌜ result r (now (ws .exit) ∷ []) ≡ targetWidths (now (target .entry)) (now (bits .entry)) (now (ws .entry)) ⌝ }
 {
     graph_widths(Graph::Target, target, bits, &target[0..0], ws)
 }

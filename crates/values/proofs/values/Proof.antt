@@ -1,6 +1,7 @@
 -- `values::values` meets its contract. Assumes nothing.
 use mathlib.Core.Path.{sym, ap, ap₂, _∙_}
-use mathlib.Core.List.{[]}
+use Prim.Native.Nat.{ℕ}
+use mathlib.Core.List.{List, [], _∷_}
 use native.Mathlib.Omega.{arith}
 use borrow.Author.Tests.{not-true, not-false}
 use lib.ListN.{length}
@@ -10,7 +11,7 @@ use Rattle.lists.proofs.Build.{build-length}
 use Rattle.rows.specs.declared.Graph.the-variants.{Target}
 use Rattle.rows.specs.Row.{rowCount}
 use Rattle.wf.specs.Widths.{rowWidth}
-use Rattle.values.specs.Values.{out}
+use Rattle.answers.specs.Result.{result}
 use Rattle.values.proofs.Outcome.{values-15, values-18, values-18-too, values-rows, values-given, values-accepted}
 use Rattle.values.proofs.Given.{evaluable}
 use Rattle.values.proofs.Steps.{widths-answer, widths-refused, widths-accepted, widths-front, values-list}
@@ -166,7 +167,7 @@ returns-6 c =
     let words = rw given at (sym (c .before .before .before .before .before .before .before .before .before .before .is-accepted2 .ensures) ∙ not-false _ (c .before .before .before .before .before .before .before .before .before .if5 .left)) in
     let many = build-length (rowWidth Target (length (s .bits .now)) [] (s .target .now)) (rowCount Target (s .target .now)) in
     let v = c .before .before .before .before .before .before .evaluate in
-    ap₂ (out Accepted) (widths-accepted (s .target .now) (s .bits .now) (s .ws .now) _ _ (w .ensures) whole room rows) (c .before .before .clear-from .ensures
+    ap₂ (λ (k l : List ℕ). result Accepted (k ∷ l ∷ [])) (widths-accepted (s .target .now) (s .bits .now) (s .ws .now) _ _ (w .ensures) whole room rows) (c .before .before .clear-from .ensures
     ∙ values-list (s .target .now) (s .bits .now) (s .given .now) (s .vs .now) _ _ _ count (ap length front ∙ many) (v .kept .1 .1 .1 .1 .0) (v .ensures))
     ∙ sym (values-accepted (s .target .now) (s .bits .now) (s .given .now) (s .ws .now) (s .vs .now) whole room room-too rows words)
 

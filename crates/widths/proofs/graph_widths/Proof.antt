@@ -1,13 +1,15 @@
 -- `widths::graph_widths` meets its contract: each return is one law of proofs/Widths. Assumes nothing.
 use mathlib.Core.Path.{_≡_, _∙_, sym, ap}
 use native.Mathlib.Omega.{arith}
+use Prim.Native.Nat.{ℕ}
+use mathlib.Core.List.{List, [], _∷_}
 use lib.ListN.{length}
 use Rattle.answers.specs.declared.Answer.the-variants.{Accepted}
 use Rattle.lists.proofs.First.{first-le}
 use Rattle.rows.specs.Row.{rowCount}
 use Rattle.wf.specs.Pass.{rowStops}
 use Rattle.wf.proofs.Stop.{stop-good}
-use Rattle.widths.specs.Widths.{out}
+use Rattle.answers.specs.Result.{result}
 use Rattle.widths.proofs.Widths.{widths-15, widths-17, widths-18, widths-stop, widths-accepted, accepted-list}
 use borrow.Author.Needs.{needs}
 use Rattle.widths.proofs.graph_widths.Statement.{statement}
@@ -93,7 +95,7 @@ returns-5 c =
     let w = c .before .before .before .before .before .before .before .before .before .graph-wf in
     let most = first-le (rowStops (s .graph) (length (s .bits .now)) (s .side .now) (s .g .now)) (rowCount (s .graph) (s .g .now)) in
     let all : w .result ≡ c .before .before .before .before .before .before .before .before .before .before .before .before .row-count .result = omega (arith, w .ensures .0, most, count) in
-    ap (out Accepted) (c .before .before .clear-from .ensures
+    ap (λ (l : List ℕ). result Accepted (l ∷ [])) (c .before .before .clear-from .ensures
     ∙ accepted-list (s .graph) (length (s .bits .now)) (s .g .now) (s .side .now) (s .ws .now) _ _ _ count all (w .kept .1 .1 .1 .1 .0) (w .ensures .1))
     ∙ sym (widths-accepted (s .graph) (s .g .now) (s .bits .now) (s .side .now) (s .ws .now) (sym (c .before .before .before .before .before .before .before .before .before .before .before .before .before .before .is-ragged .ensures) ∙ c .before .before .before .before .before .before .before .before .before .before .before .before .before .if1 .left) (rw count at (c .before .before .before .before .before .before .before .before .before .before .before .if2 .left)) (rw (w .ensures .0, count) at (c .before .before .before .before .before .before .if3 .left)) (rw (c .before .before .before .before .before .bad-bit .ensures) at (c .before .before .before .before .if4 .left)))
 
