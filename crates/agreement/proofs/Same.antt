@@ -1,56 +1,18 @@
 -- An outcome on copies is the outcome on the case's lists, and an outcome whose parts are the expected ones is the expected one. Assumes nothing.
 use mathlib.Core.Path.{_≡_, _∙_, sym, ap}
-use mathlib.Core.Bool.{Bool, true, false}
 use mathlib.Core.List.{List}
 use Prim.Native.Nat.{ℕ}
 use Rattle.answers.specs.declared.Words.{Words}
-use Rattle.widths.specs.Widths.{sourceWidths, targetWidths}
-use Rattle.values.specs.Values.{values}
 use Rattle.lowering.specs.Lowering.{Lowering, lowering}
 use Rattle.lowering.specs.Check.{check}
-use Rattle.gilfrunt.specs.Exports.{Result, result, resultOf, Results, results, resultsOf, Checked, checked, checkedOf}
+use Rattle.gilfrunt.specs.Exports.{Checked, checked, checkedOf}
 use Rattle.cases.specs.Case.{given}
-use Rattle.agreement.specs.Agrees.{widthsOf, checkOf}
+use Rattle.agreement.specs.Agrees.{checkOf}
 
 -- Part by part.
-pub same-result : {R : Result} {a A : Words} {l L : List ℕ} → result a l ≡ R → a ≡ A → l ≡ L → R ≡ result A L
-same-result e p q = sym e ∙ rw (p, q)
-
-pub same-results : {R : Results} {a A : Words} {k K l L : List ℕ} → results a k l ≡ R → a ≡ A → (k ≡ K) × (l ≡ L) → R ≡ results A K L
-same-results e p q = sym e ∙ rw (p, q .0, q .1)
-
 pub same-checked : {R : Checked} {a A : Words} {k K l L m M n N : List ℕ}
     → checked a k l m n ≡ R → a ≡ A → (k ≡ K) × (l ≡ L) → (m ≡ M) × (n ≡ N) → R ≡ checked A K L M N
 same-checked e p q r = sym e ∙ rw (p, q .0, q .1, r .0, r .1)
-
--- Widths: the rows and the side list are the case's; so are copies of the bits and of the lent list.
-module _ (w bits lent : List ℕ) {R : Result} {source : Bool} {rows : List ℕ} (p : rows ≡ given w 0) where
-  pub source-call : {side : List ℕ} → side ≡ given w 2 → source ≡ true
-      → R ≡ resultOf (sourceWidths rows bits side lent) → R ≡ resultOf (widthsOf source w bits lent)
-  source-call {side} q s e =
-      e ∙ ap (λ (x : List ℕ). resultOf (sourceWidths x bits side lent)) p ∙ ap (λ (x : List ℕ). resultOf (sourceWidths (given w 0) bits x lent)) q
-      ∙ ap (λ (b : Bool). resultOf (widthsOf b w bits lent)) (sym s)
-
-  pub target-call : source ≡ false → R ≡ resultOf (targetWidths rows bits lent) → R ≡ resultOf (widthsOf source w bits lent)
-  target-call s e =
-      e ∙ ap (λ (x : List ℕ). resultOf (targetWidths x bits lent)) p ∙ ap (λ (b : Bool). resultOf (widthsOf b w bits lent)) (sym s)
-
-pub widths-copied : (source : Bool) (w : List ℕ) {R : Result} {b B l L : List ℕ} → b ≡ B → l ≡ L
-    → resultOf (widthsOf source w b l) ≡ R → resultOf (widthsOf source w B L) ≡ R
-widths-copied source w {R} {b} {B} {l} {L} p q e =
-    ap (λ (x : List ℕ). resultOf (widthsOf source w x L)) (sym p) ∙ ap (λ (x : List ℕ). resultOf (widthsOf source w b x)) (sym q) ∙ e
-
--- Values: the rows and the given words are the case's; so are copies of the bits and of the lent lists.
-pub values-call : (w b k l : List ℕ) {R : Results} {t g : List ℕ} → t ≡ given w 0 → g ≡ given w 2
-    → resultsOf (values t b g k l) ≡ R → resultsOf (values (given w 0) b (given w 2) k l) ≡ R
-values-call w b k l {R} {t} {g} p q e =
-    ap (λ (x : List ℕ). resultsOf (values x b (given w 2) k l)) (sym p) ∙ ap (λ (x : List ℕ). resultsOf (values t b x k l)) (sym q) ∙ e
-
-pub values-copied : (t g : List ℕ) {R : Results} {b B k K l L : List ℕ} → b ≡ B → k ≡ K → l ≡ L
-    → resultsOf (values t b g k l) ≡ R → resultsOf (values t B g K L) ≡ R
-values-copied t g {R} {b} {B} {k} {K} {l} {L} p q r e =
-    ap (λ (x : List ℕ). resultsOf (values t x g K L)) (sym p) ∙ ap (λ (x : List ℕ). resultsOf (values t b g x L)) (sym q)
-    ∙ ap (λ (x : List ℕ). resultsOf (values t b g k x)) (sym r) ∙ e
 
 -- Check: the lowering's lists are the case's; so are copies of the bits and of the lent lists.
 module _ (w ebits tbits : List ℕ) {R : Checked} where

@@ -1,16 +1,12 @@
-// The operations: each takes its lists from a case, calls the library, and compares the outcome.
+// Whether the library answers a case as expected: each operation takes its lists from the case, calls the library, and compares the outcome.
 ghost use mathlib.Core.Path.{_≡_};
 ghost use mathlib.Core.Bool.{true};
-ghost use Prim.Native.Nat.{_<_, _≤_};
+ghost use Prim.Native.Nat.{_≤_};
 ghost use lib.ListN.{length, getD};
-ghost use Rattle.gilfrunt.specs.Exports.{result, resultOf, checked, checkedOf};
-ghost use Rattle.cases.specs.Case.{given};
-ghost use Rattle.agreement.specs.Agrees.{room, widthsOf, SameWidths, WidthsAgree, RootsAgree, SameValues, ValuesAgree, checkOf, SameCheck};
-ghost use Rattle.agreement.specs.Agrees.{CheckAgrees, BookAgrees, SameSection, SectionAgrees, Agrees};
+ghost use Rattle.gilfrunt.specs.Exports.{checked, checkedOf};
+ghost use Rattle.cases.specs.Case.{room, given};
+ghost use Rattle.agreement.specs.Agrees.{checkOf, SameCheck, CheckAgrees, BookAgrees, SameSection, SectionAgrees, Agrees};
 use answers::Words;
-
-// The longest line, and so the longest list: a line has no more words.
-pub const ROOM: usize = 1024;
 
 // Whether the library answers a case as expected. Malformed cases and unknown operations do not agree.
 pub fn agrees(words: &[u64]) -> bool
@@ -22,100 +18,15 @@ pub fn agrees(words: &[u64]) -> bool
     }
     let operation = words[0];
     match operation {
-        1 => widths_agree(words, true, 4),
-        2 => widths_agree(words, false, 3),
-        3 => roots_agree(words),
-        4 => values_agree(words),
+        1 => single::widths_agree(words, true, 4),
+        2 => single::widths_agree(words, false, 3),
+        3 => single::roots_agree(words),
+        4 => single::values_agree(words),
         5 => check_agrees(words),
         6 => book_agrees(words),
         7 => section_agrees(words),
         _ => false,
     }
-}
-
-fn call_widths(words: &[u64], source: bool, bits: &[u8], widths: &mut [u64]) -> Words
-    ensures outcome { λ r. ⌜ result r (now (widths .exit)) ≡ resultOf (widthsOf source (now (words .entry)) (now (bits .entry))
-        (now (widths .entry))) ⌝ }
-{
-    let rows = cases::given(words, 0);
-    if source {
-        return gilfrunt::gilfrunt_source_widths(rows, bits, cases::given(words, 2), widths);
-    }
-    gilfrunt::gilfrunt_target_widths(rows, bits, widths)
-}
-
-// Calls on copies of the case's bits and lent list, and compares the answer and the lent list.
-fn same_widths(words: &[u64], source: bool, bits: &[u8], widths: &mut [u64]) -> bool
-    ensures agreed { λ r. ⌜ (r ≡ true → SameWidths source (now (words .entry)) (now (bits .entry)) (now (widths .entry))) ⌝ }
-{
-    let a = call_widths(words, source, bits, widths);
-    if !cases::same_answer(words, a) {
-        return false;
-    }
-    cases::same_lent(words, 0, widths)
-}
-
-// Widths of a source or a target: the bits are list 1, the lent list is the last.
-fn widths_agree(words: &[u64], source: bool, lists: u64) -> bool
-    requires { ⌜ (0 < lists) × (length (now words) ≤ room) ⌝ }
-    ensures agreed { λ r. ⌜ (r ≡ true → WidthsAgree source lists (now (words .entry))) ⌝ }
-{
-    if !cases::has_shape(words, lists, 1) {
-        return false;
-    }
-    let bits = cases::given(words, 1);
-    let b = bits.len();
-    let mut bytes = [0u8; ROOM];
-    let mut widths = [0u64; ROOM];
-    if !cases::copy_bytes(bits, &mut bytes) {
-        return false;
-    }
-    let n = cases::lend(cases::given(words, lists as usize - 1), &mut widths);
-    same_widths(words, source, &bytes[..b], &mut widths[..n])
-}
-
-fn roots_agree(words: &[u64]) -> bool
-    ensures agreed { λ r. ⌜ (r ≡ true → RootsAgree (now (words .entry))) ⌝ }
-{
-    if !cases::has_shape(words, 2, 0) {
-        return false;
-    }
-    let widths = cases::given(words, 0);
-    let a = gilfrunt::gilfrunt_roots(widths, cases::given(words, 1));
-    cases::same_answer(words, a)
-}
-
-// Calls on copies of the case's bits and lent lists, and compares the answer and both lists.
-fn same_values(words: &[u64], bits: &[u8], widths: &mut [u64], numbers: &mut [u64]) -> bool
-    ensures agreed { λ r. ⌜ (r ≡ true → SameValues (now (words .entry)) (now (bits .entry)) (now (widths .entry)) (now (numbers .entry))) ⌝ }
-{
-    let rows = cases::given(words, 0);
-    let a = gilfrunt::gilfrunt_values(rows, bits, cases::given(words, 2), widths, numbers);
-    if !cases::same_answer(words, a) {
-        return false;
-    }
-    cases::same_both(words, 0, widths, numbers)
-}
-
-// Values of a target: the bits are list 1, the lent lists are 3 and 4.
-fn values_agree(words: &[u64]) -> bool
-    requires { ⌜ length (now words) ≤ room ⌝ }
-    ensures agreed { λ r. ⌜ (r ≡ true → ValuesAgree (now (words .entry))) ⌝ }
-{
-    if !cases::has_shape(words, 5, 2) {
-        return false;
-    }
-    let bits = cases::given(words, 1);
-    let b = bits.len();
-    let mut bytes = [0u8; ROOM];
-    let mut widths = [0u64; ROOM];
-    let mut numbers = [0u64; ROOM];
-    if !cases::copy_bytes(bits, &mut bytes) {
-        return false;
-    }
-    let n = cases::lend(cases::given(words, 3), &mut widths);
-    let m = cases::lend(cases::given(words, 4), &mut numbers);
-    same_values(words, &bytes[..b], &mut widths[..n], &mut numbers[..m])
 }
 
 fn call_check(
@@ -179,10 +90,10 @@ fn lowering_agrees(words: &[u64], ebits: &[u8], tbits: &[u8]) -> bool
     ensures agreed { λ r. ⌜ (r ≡ true → SameCheck (now (words .entry)) (now (ebits .entry)) (now (tbits .entry))
         (given (now (words .entry)) 11) (given (now (words .entry)) 12) (given (now (words .entry)) 13) (given (now (words .entry)) 14)) ⌝ }
 {
-    let mut ws0 = [0u64; ROOM];
-    let mut ws1 = [0u64; ROOM];
-    let mut classes = [0u64; ROOM];
-    let mut entries = [0u64; ROOM];
+    let mut ws0 = [0u64; cases::ROOM];
+    let mut ws1 = [0u64; cases::ROOM];
+    let mut classes = [0u64; cases::ROOM];
+    let mut entries = [0u64; cases::ROOM];
     let n0 = cases::lend(cases::given(words, 11), &mut ws0);
     let n1 = cases::lend(cases::given(words, 12), &mut ws1);
     let n2 = cases::lend(cases::given(words, 13), &mut classes);
@@ -210,8 +121,8 @@ fn check_agrees(words: &[u64]) -> bool
     let bits_too = cases::given(words, 9);
     let n = bits.len();
     let m = bits_too.len();
-    let mut ebits = [0u8; ROOM];
-    let mut tbits = [0u8; ROOM];
+    let mut ebits = [0u8; cases::ROOM];
+    let mut tbits = [0u8; cases::ROOM];
     if !cases::copy_bytes(bits, &mut ebits) {
         return false;
     }
@@ -231,7 +142,7 @@ fn book_agrees(words: &[u64]) -> bool
     }
     let list = cases::given(words, 0);
     let n = list.len();
-    let mut bytes = [0u8; ROOM];
+    let mut bytes = [0u8; cases::ROOM];
     if !cases::copy_bytes(list, &mut bytes) {
         return false;
     }
@@ -243,8 +154,8 @@ fn book_agrees(words: &[u64]) -> bool
 fn same_stretch(words: &[u64], book: &[u8], number: u64) -> bool
     ensures agreed { λ r. ⌜ (r ≡ true → SameSection (now (words .entry)) (now (book .entry)) number) ⌝ }
 {
-    let a = book::section_answer(book, number);
-    if !cases::same_answer(words, answers::words_of(a)) {
+    let a = gilfrunt::gilfrunt_section_answer(book, number);
+    if !cases::same_answer(words, a) {
         return false;
     }
     cases::same_bytes(book::section(book, number), cases::expected(words, 0))
@@ -272,7 +183,7 @@ fn section_agrees(words: &[u64]) -> bool
     }
     let list = cases::given(words, 0);
     let n = list.len();
-    let mut bytes = [0u8; ROOM];
+    let mut bytes = [0u8; cases::ROOM];
     if !cases::copy_bytes(list, &mut bytes) {
         return false;
     }

@@ -8,6 +8,9 @@ ghost use Rattle.io.specs.Counts.{Counts};
 ghost use Rattle.cases.specs.Case.{after, afterLists, listAt, given, answerAt, answer, expected, hasShape};
 use answers::Words;
 
+// The longest line, and so the longest list: a line has no more words.
+pub const ROOM: usize = 1024;
+
 // The word at a place, and 0 past the end.
 fn word_at(words: &[u64], at: usize) -> u64
     ensures word { λ r. ⌜ r ≡ getD (now (words .entry)) at 0 ⌝ }

@@ -1,4 +1,4 @@
--- `agreement::call_check` meets its contract. Assumes nothing.
+-- The lists that the library is lent are the case's, by the calls that took them. Assumes nothing.
 use mathlib.Core.Path.{sym}
 use Rattle.agreement.proofs.Same.{check-call}
 use borrow.Author.Needs.{needs}

@@ -1,4 +1,4 @@
--- `agreement::check_agrees` meets its contract: the copies are the case's bits. Assumes nothing.
+-- The copies are the case's bits. Assumes nothing.
 use mathlib.Core.Path.{_∙_, sym}
 use mathlib.Core.Bool.{false≢true}
 use borrow.Author.Tests.{not-false}

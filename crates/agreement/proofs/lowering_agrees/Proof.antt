@@ -1,4 +1,4 @@
--- `agreement::lowering_agrees` meets its contract: the copies are the case's lists. Assumes nothing.
+-- The copies are the case's lists. Assumes nothing.
 use mathlib.Core.Path.{_∙_}
 use Rattle.agreement.proofs.Same.{check-lent}
 use borrow.Author.Needs.{needs}

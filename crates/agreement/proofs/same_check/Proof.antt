@@ -1,4 +1,4 @@
--- `agreement::same_check` meets its contract: the answer and the lists, each by its test. Assumes nothing.
+-- The answer and the lists, each by its test. Assumes nothing.
 use mathlib.Core.Bool.{false≢true}
 use borrow.Author.Tests.{not-false}
 use Rattle.agreement.proofs.Same.{same-checked}

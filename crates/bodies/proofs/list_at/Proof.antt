@@ -1,4 +1,4 @@
--- `bodies::list_at` meets its contract. Assumes nothing.
+-- From the words before the section's to the end of its own, as `part` says. Assumes nothing.
 use Prim.Native.Nat.{_≤_}
 use native.Mathlib.Omega.{arith}
 use lib.ListN.{length}

@@ -1,4 +1,4 @@
--- `bodies::load` meets its contract. Assumes nothing.
+-- Invariant: the words of the first i sections stand in front, the rest is as it was. Assumes nothing.
 use mathlib.Core.Path.{_≡_, refl, _∙_}
 use Prim.Native.Nat.{_≤_, _-_, _+_}
 use native.Mathlib.Omega.{arith}

@@ -1,4 +1,4 @@
--- `bodies::load_section` meets its contract. Assumes nothing.
+-- Bits have no words; other sections are read into the part behind the words before. Assumes nothing.
 use mathlib.Core.Path.{sym, _∙_}
 use Rattle.bodies.proofs.Words.{bits-joined, words-room, words-joined}
 use borrow.Author.Needs.{needs}

@@ -1,4 +1,4 @@
--- `bodies::offset` meets its contract. Assumes nothing.
+-- Invariant: the sum so far is the number of words of the first k sections. Assumes nothing.
 use Prim.Native.Nat.{_≤_, _-_, _+_}
 use native.Mathlib.Omega.{arith}
 use Rattle.bodies.proofs.Words.{loaded-none, offset-more, loaded-fits}

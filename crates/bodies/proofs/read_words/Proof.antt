@@ -1,4 +1,4 @@
--- `bodies::read_words` meets its contract. Assumes nothing.
+-- Invariant: the first j words are read, the rest is as it was. Assumes nothing.
 use native.Mathlib.Omega.{arith}
 use Prim.Native.Nat.{_≤_, _-_, _<_}
 use lib.ListN.{length}

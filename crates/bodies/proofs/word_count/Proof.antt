@@ -1,4 +1,4 @@
--- `bodies::word_count` meets its contract. Assumes nothing.
+-- No words for bits; else an eighth of the section's length, which is whole. Assumes nothing.
 use mathlib.Core.Path.{_≡_, sym, _∙_}
 use mathlib.Core.Bool.{true}
 use Rattle.book.specs.Book.{isBits}

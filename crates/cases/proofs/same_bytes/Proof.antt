@@ -1,4 +1,4 @@
--- `cases::same_bytes` meets its contract: bytes and words agree below i. Assumes nothing.
+-- Bytes and words agree below i. Assumes nothing.
 use Prim.Native.Nat.{ℕ, _≤_, _<_, _-_}
 use mathlib.Core.Path.{_≡_, _∙_, refl, sym, ap}
 use mathlib.Core.Bool.{false≢true}

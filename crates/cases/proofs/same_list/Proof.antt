@@ -1,4 +1,4 @@
--- `cases::same_list` meets its contract: the lists agree below i. Assumes nothing.
+-- The lists agree below i. Assumes nothing.
 use Prim.Native.Nat.{ℕ, _≤_, _<_, _-_}
 use mathlib.Core.Path.{_≡_, refl, ap}
 use mathlib.Core.Bool.{false≢true}

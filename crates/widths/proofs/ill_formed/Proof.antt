@@ -1,4 +1,4 @@
--- `widths::ill_formed` meets its contract. Assumes nothing.
+-- A number for each graph. Assumes nothing.
 use borrow.Author.Needs.{needs}
 use Rattle.widths.proofs.ill_formed.Statement.{statement}
 use Rattle.widths.proofs.ill_formed.Tie as tie

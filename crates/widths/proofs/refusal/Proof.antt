@@ -1,4 +1,4 @@
--- `widths::refusal` meets its contract: each return is a path through the definition's tests. Assumes nothing.
+-- Each return is a path through the definition's tests. Assumes nothing.
 use borrow.Author.Tests.{lt-ltb, le-ltb}
 use borrow.Author.Needs.{needs}
 use Rattle.widths.proofs.refusal.Statement.{statement}

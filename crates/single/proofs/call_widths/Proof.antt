@@ -1,8 +1,8 @@
--- `agreement::call_widths` meets its contract. Assumes nothing.
-use Rattle.agreement.proofs.Same.{source-call, target-call}
+-- The rows and the side list that the library is lent are the case's. Assumes nothing.
+use Rattle.single.proofs.Same.{source-call, target-call}
 use borrow.Author.Needs.{needs}
-use Rattle.agreement.proofs.call_widths.Statement.{statement}
-use Rattle.agreement.proofs.call_widths.Tie as tie
+use Rattle.single.proofs.call_widths.Statement.{statement}
+use Rattle.single.proofs.call_widths.Tie as tie
 
 given-requires : tie.Need-given-requires
 given-requires c κs = search needs

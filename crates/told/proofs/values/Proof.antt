@@ -1,9 +1,9 @@
--- `gilfrunt::gilfrunt_values` meets its contract. Assumes nothing.
+-- The operation's result, its answer told in words. Assumes nothing.
 use mathlib.Core.Path.{ap}
-use Rattle.gilfrunt.specs.Exports.{resultsOf}
+use Rattle.answers.specs.Result.{toldOf}
 use borrow.Author.Needs.{needs}
-use Rattle.gilfrunt.proofs.gilfrunt_values.Statement.{statement}
-use Rattle.gilfrunt.proofs.gilfrunt_values.Tie as tie
+use Rattle.told.proofs.values.Statement.{statement}
+use Rattle.told.proofs.values.Tie as tie
 
 values-requires : tie.Need-values-requires
 values-requires c κs = search needs
@@ -18,8 +18,8 @@ same-length-2 : tie.Need-same-length-2
 same-length-2 c = search needs
 
 returns : tie.Need-returns
-returns c = rw (c .words-of .ensures) (ap resultsOf (c .before .before .before .before .before .values .ensures))
+returns c = rw (c .words-of .ensures) (ap toldOf (c .before .before .before .before .before .values .ensures))
 
-pub gilfrunt-values-spec : {M : Type 1} → statement M
-gilfrunt-values-spec =
+pub values-spec : {M : Type 1} → statement M
+values-spec =
     tie.close (tie.spec values-requires words-of-requires same-length same-length-2 returns)

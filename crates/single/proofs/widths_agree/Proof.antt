@@ -1,11 +1,11 @@
--- `agreement::widths_agree` meets its contract: the copies are the case's lists. Assumes nothing.
+-- The copies are the case's lists. Assumes nothing.
 use mathlib.Core.Path.{_∙_, sym}
 use mathlib.Core.Bool.{false≢true}
 use borrow.Author.Tests.{not-false}
-use Rattle.agreement.proofs.Same.{widths-copied}
+use Rattle.single.proofs.Same.{widths-copied}
 use borrow.Author.Needs.{needs}
-use Rattle.agreement.proofs.widths_agree.Statement.{statement}
-use Rattle.agreement.proofs.widths_agree.Tie as tie
+use Rattle.single.proofs.widths_agree.Statement.{statement}
+use Rattle.single.proofs.widths_agree.Tie as tie
 
 has-shape-requires : tie.Need-has-shape-requires
 has-shape-requires c κs = search needs

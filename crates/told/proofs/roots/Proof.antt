@@ -1,9 +1,9 @@
--- `gilfrunt::gilfrunt_roots` meets its contract. Assumes nothing.
+-- The operation's answer in words. Assumes nothing.
 use mathlib.Core.Path.{_∙_, ap}
 use Rattle.answers.specs.Answer.{wordsOf}
 use borrow.Author.Needs.{needs}
-use Rattle.gilfrunt.proofs.gilfrunt_roots.Statement.{statement}
-use Rattle.gilfrunt.proofs.gilfrunt_roots.Tie as tie
+use Rattle.told.proofs.roots.Statement.{statement}
+use Rattle.told.proofs.roots.Tie as tie
 
 roots-requires : tie.Need-roots-requires
 roots-requires c κs = search needs
@@ -14,5 +14,5 @@ words-of-requires c κs = search needs
 returns : tie.Need-returns
 returns c = c .words-of .ensures ∙ ap wordsOf (c .before .roots .ensures)
 
-pub gilfrunt-roots-spec : {M : Type 1} → statement M
-gilfrunt-roots-spec = tie.close (tie.spec roots-requires words-of-requires returns)
+pub roots-spec : {M : Type 1} → statement M
+roots-spec = tie.close (tie.spec roots-requires words-of-requires returns)

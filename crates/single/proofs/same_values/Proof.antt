@@ -1,10 +1,10 @@
--- `agreement::same_values` meets its contract: the answer and the lists, each by its test. Assumes nothing.
+-- The answer and the lists, each by its test. Assumes nothing.
 use mathlib.Core.Bool.{false≢true}
 use borrow.Author.Tests.{not-false}
-use Rattle.agreement.proofs.Same.{same-results, values-call}
+use Rattle.single.proofs.Same.{same-two, values-call}
 use borrow.Author.Needs.{needs}
-use Rattle.agreement.proofs.same_values.Statement.{statement}
-use Rattle.agreement.proofs.same_values.Tie as tie
+use Rattle.single.proofs.same_values.Statement.{statement}
+use Rattle.single.proofs.same_values.Tie as tie
 
 given-requires : tie.Need-given-requires
 given-requires c κs = search needs
@@ -40,7 +40,7 @@ returns-2 : tie.Need-returns-2
 returns-2 c =
     let a = c .before .before .before .before .before .before .before .before .before .before .before .before .before .before .before .before .before .before .args in
     λ e. values-call (a .words .now) (a .bits .now) (a .widths .now) (a .numbers .now) (c .before .before .before .before .before .before .before .before .before .before .before .before .before .given .ensures .0) (c .before .before .before .before .before .before .before .before .before .before .before .before .given2 .ensures .0)
-    (same-results (c .before .before .before .before .before .before .before .before .before .gilfrunt-values .ensures) (c .before .before .before .before .same-answer .ensures .0 (not-false _ (c .before .before .before .if1 .left))) (c .same-both .ensures e))
+    (same-two (c .before .before .before .before .before .before .before .before .before .gilfrunt-values .ensures) (c .before .before .before .before .same-answer .ensures .0 (not-false _ (c .before .before .before .if1 .left))) (c .same-both .ensures e))
 
 pub same-values-spec : {M : Type 1} → statement M
 same-values-spec =

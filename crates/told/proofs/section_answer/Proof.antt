@@ -1,7 +1,7 @@
--- `gilfrunt::gilfrunt_section_answer` meets its contract. Assumes nothing.
+-- The section's answer in words. Assumes nothing.
 use borrow.Author.Needs.{needs}
-use Rattle.gilfrunt.proofs.gilfrunt_section_answer.Statement.{statement}
-use Rattle.gilfrunt.proofs.gilfrunt_section_answer.Tie as tie
+use Rattle.told.proofs.section_answer.Statement.{statement}
+use Rattle.told.proofs.section_answer.Tie as tie
 
 section-answer-requires : tie.Need-section-answer-requires
 section-answer-requires c κs = search needs
@@ -12,6 +12,6 @@ words-of-requires c κs = search needs
 returns : tie.Need-returns
 returns c = rw (c .words-of .ensures, c .before .section-answer .ensures)
 
-pub gilfrunt-section-answer-spec : {M : Type 1} → statement M
-gilfrunt-section-answer-spec =
+pub section-answer-spec : {M : Type 1} → statement M
+section-answer-spec =
     tie.close (tie.spec section-answer-requires words-of-requires returns)

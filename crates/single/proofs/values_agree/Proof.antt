@@ -1,12 +1,12 @@
--- `agreement::values_agree` meets its contract: the copies are the case's lists. Assumes nothing.
+-- The copies are the case's lists. Assumes nothing.
 use mathlib.Core.Path.{_∙_, sym}
 use mathlib.Core.Bool.{false≢true}
 use borrow.Author.Tests.{not-false}
-use Rattle.agreement.proofs.Same.{values-copied}
+use Rattle.single.proofs.Same.{values-copied}
 use Rattle.cases.specs.Case.{given}
 use borrow.Author.Needs.{needs}
-use Rattle.agreement.proofs.values_agree.Statement.{statement}
-use Rattle.agreement.proofs.values_agree.Tie as tie
+use Rattle.single.proofs.values_agree.Statement.{statement}
+use Rattle.single.proofs.values_agree.Tie as tie
 
 has-shape-requires : tie.Need-has-shape-requires
 has-shape-requires c κs = search needs

@@ -1,4 +1,4 @@
--- `agreement::roots_agree` meets its contract. Assumes nothing.
+-- Both lists are the case's, and the answer is compared. Assumes nothing.
 use mathlib.Core.Path.{_∙_, sym, ap}
 use mathlib.Core.List.{List}
 use Prim.Native.Nat.{ℕ}
@@ -8,8 +8,8 @@ use Rattle.answers.specs.Answer.{wordsOf}
 use Rattle.widths.specs.Widths.{rootsAnswer}
 use Rattle.cases.specs.Case.{given}
 use borrow.Author.Needs.{needs}
-use Rattle.agreement.proofs.roots_agree.Statement.{statement}
-use Rattle.agreement.proofs.roots_agree.Tie as tie
+use Rattle.single.proofs.roots_agree.Statement.{statement}
+use Rattle.single.proofs.roots_agree.Tie as tie
 
 has-shape-requires : tie.Need-has-shape-requires
 has-shape-requires c κs = search needs

@@ -1,10 +1,10 @@
--- `agreement::same_widths` meets its contract: the answer and the list, each by its test. Assumes nothing.
+-- The answer and the list, each by its test. Assumes nothing.
 use mathlib.Core.Bool.{false≢true}
 use borrow.Author.Tests.{not-false}
-use Rattle.agreement.proofs.Same.{same-result}
+use Rattle.single.proofs.Same.{same-one}
 use borrow.Author.Needs.{needs}
-use Rattle.agreement.proofs.same_widths.Statement.{statement}
-use Rattle.agreement.proofs.same_widths.Tie as tie
+use Rattle.single.proofs.same_widths.Statement.{statement}
+use Rattle.single.proofs.same_widths.Tie as tie
 
 call-widths-requires : tie.Need-call-widths-requires
 call-widths-requires c κs = search needs
@@ -25,7 +25,7 @@ same-length-2 : tie.Need-same-length-2
 same-length-2 c = search needs
 
 returns-2 : tie.Need-returns-2
-returns-2 c = λ e. same-result (c .before .before .before .before .before .before .call-widths .ensures) (c .before .before .before .same-answer .ensures .0 (not-false _ (c .before .before .if1 .left))) (c .same-lent .ensures .0 e)
+returns-2 c = λ e. same-one (c .before .before .before .before .before .before .call-widths .ensures) (c .before .before .before .same-answer .ensures .0 (not-false _ (c .before .before .if1 .left))) (c .same-lent .ensures .0 e)
 
 pub same-widths-spec : {M : Type 1} → statement M
 same-widths-spec =
