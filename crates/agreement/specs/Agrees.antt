@@ -5,29 +5,11 @@ use mathlib.Core.Bool.{true, false}
 use mathlib.Core.List.{List}
 use lib.ListN.{length, getD}
 use Rattle.answers.specs.Answer.{wordsOf}
-use Rattle.lowering.specs.Lowering.{lowering}
-use Rattle.lowering.specs.Check.{Outcome, check}
 use Rattle.book.specs.Book.{sectionAnswer, section}
 use Rattle.judge.specs.Judge.{verdict}
-use Rattle.gilfrunt.specs.Exports.{checked, checkedOf}
 use Rattle.cases.specs.Case.{given, answer, expected, hasShape}
 use Rattle.single.specs.Single.{WidthsAgree, RootsAgree, ValuesAgree}
-
--- Check on a case's lists, with these bits and lent lists
-abbrev pub checkOf : List ℕ → List ℕ → List ℕ → List ℕ → List ℕ → List ℕ → List ℕ → Outcome
-checkOf w ebits tbits ws0 ws1 classes entries =
-    check
-    (lowering (given w 0) ebits (given w 2) (given w 3) (given w 4) (given w 5) (given w 6) (given w 7) (given w 8) tbits (given w 10))
-    ws0 ws1 classes entries
-
-abbrev pub SameCheck : List ℕ → List ℕ → List ℕ → List ℕ → List ℕ → List ℕ → List ℕ → Type 0
-SameCheck w ebits tbits ws0 ws1 classes entries =
-    checkedOf (checkOf w ebits tbits ws0 ws1 classes entries) ≡ checked (answer w) (expected w 0) (expected w 1) (expected w 2) (expected w 3)
-
--- the bits are lists 1 and 9, the lent lists are 11 to 14
-abbrev pub CheckAgrees : List ℕ → Type 0
-CheckAgrees w =
-    (hasShape w 15 4 ≡ true) × SameCheck w (given w 1) (given w 9) (given w 11) (given w 12) (given w 13) (given w 14)
+use Rattle.paired.specs.Paired.{CheckAgrees}
 
 -- the book is list 0
 abbrev pub BookAgrees : List ℕ → Type 0

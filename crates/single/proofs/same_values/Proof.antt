@@ -38,9 +38,15 @@ same-length-4 c = search needs
 
 returns-2 : tie.Need-returns-2
 returns-2 c =
-    let a = c .before .before .before .before .before .before .before .before .before .before .before .before .before .before .before .before .before .before .args in
-    λ e. values-call (a .words .now) (a .bits .now) (a .widths .now) (a .numbers .now) (c .before .before .before .before .before .before .before .before .before .before .before .before .before .given .ensures .0) (c .before .before .before .before .before .before .before .before .before .before .before .before .given2 .ensures .0)
-    (same-two (c .before .before .before .before .before .before .before .before .before .gilfrunt-values .ensures) (c .before .before .before .before .same-answer .ensures .0 (not-false _ (c .before .before .before .if1 .left))) (c .same-both .ensures e))
+    let else1 = c .before .before .before in
+    let at-same-answer = else1 .before in
+    let at-gilfrunt-values = at-same-answer .before .before .before .before .before in
+    let at-given2 = at-gilfrunt-values .before .before .before in
+    let at-given = at-given2 .before in
+    let start = at-given .before .before .before .before .before in
+    let a = start .args in
+    λ e. values-call (a .words .now) (a .bits .now) (a .widths .now) (a .numbers .now) (at-given .given .ensures .0) (at-given2 .given2 .ensures .0)
+    (same-two (at-gilfrunt-values .gilfrunt-values .ensures) (at-same-answer .same-answer .ensures .0 (not-false _ (else1 .if1 .left))) (c .same-both .ensures e))
 
 pub same-values-spec : {M : Type 1} → statement M
 same-values-spec =

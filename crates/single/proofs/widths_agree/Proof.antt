@@ -54,10 +54,18 @@ same-widths-requires c κs = search needs
 
 returns-3 : tie.Need-returns-3
 returns-3 c =
-    let a = c .before .before .before .before .before .before .before .before .before .before .before .before .before .before .before .before .args in
-    let bits = c .before .before .before .before .before .before .before .before .before .before .copy-bytes .ensures .1 (not-false _ (c .before .before .before .before .before .before .before .before .if2 .left)) ∙ c .before .before .before .before .before .before .before .before .before .before .before .before .given .ensures .0 in
-    let lent = c .before .before .before .before .before .lend .ensures .1 ∙ c .before .before .before .before .before .before .before .given2 .ensures .0 in
-    λ e. (sym (c .before .before .before .before .before .before .before .before .before .before .before .before .before .before .has-shape .ensures) ∙ not-false _ (c .before .before .before .before .before .before .before .before .before .before .before .before .before .if1 .left), widths-copied (a .source) (a .words .now) bits lent (c .before .same-widths .ensures e))
+    let at-lend = c .before .before .before .before .before in
+    let at-given2 = at-lend .before .before in
+    let else2 = at-given2 .before in
+    let at-copy-bytes = else2 .before .before in
+    let at-given = at-copy-bytes .before .before in
+    let else1 = at-given .before in
+    let at-has-shape = else1 .before in
+    let start = at-has-shape .before .before in
+    let a = start .args in
+    let bits = at-copy-bytes .copy-bytes .ensures .1 (not-false _ (else2 .if2 .left)) ∙ at-given .given .ensures .0 in
+    let lent = at-lend .lend .ensures .1 ∙ at-given2 .given2 .ensures .0 in
+    λ e. (sym (at-has-shape .has-shape .ensures) ∙ not-false _ (else1 .if1 .left), widths-copied (a .source) (a .words .now) bits lent (c .before .same-widths .ensures e))
 
 pub widths-agree-spec : {M : Type 1} → statement M
 widths-agree-spec =

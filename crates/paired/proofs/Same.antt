@@ -7,7 +7,7 @@ use Rattle.lowering.specs.Lowering.{Lowering, lowering}
 use Rattle.lowering.specs.Check.{check}
 use Rattle.gilfrunt.specs.Exports.{Checked, checked, checkedOf}
 use Rattle.cases.specs.Case.{given}
-use Rattle.agreement.specs.Agrees.{checkOf}
+use Rattle.paired.specs.Paired.{checkOf}
 
 -- Part by part.
 pub same-checked : {R : Checked} {a A : Words} {k K l L m M n N : List ℕ}

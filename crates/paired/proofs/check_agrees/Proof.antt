@@ -2,11 +2,11 @@
 use mathlib.Core.Path.{_∙_, sym}
 use mathlib.Core.Bool.{false≢true}
 use borrow.Author.Tests.{not-false}
-use Rattle.agreement.proofs.Same.{check-bits}
+use Rattle.paired.proofs.Same.{check-bits}
 use Rattle.cases.specs.Case.{given}
 use borrow.Author.Needs.{needs}
-use Rattle.agreement.proofs.check_agrees.Statement.{statement}
-use Rattle.agreement.proofs.check_agrees.Tie as tie
+use Rattle.paired.proofs.check_agrees.Statement.{statement}
+use Rattle.paired.proofs.check_agrees.Tie as tie
 
 has-shape-requires : tie.Need-has-shape-requires
 has-shape-requires c κs = search needs

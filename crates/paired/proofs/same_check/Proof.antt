@@ -1,10 +1,10 @@
 -- The answer and the lists, each by its test. Assumes nothing.
 use mathlib.Core.Bool.{false≢true}
 use borrow.Author.Tests.{not-false}
-use Rattle.agreement.proofs.Same.{same-checked}
+use Rattle.paired.proofs.Same.{same-checked}
 use borrow.Author.Needs.{needs}
-use Rattle.agreement.proofs.same_check.Statement.{statement}
-use Rattle.agreement.proofs.same_check.Tie as tie
+use Rattle.paired.proofs.same_check.Statement.{statement}
+use Rattle.paired.proofs.same_check.Tie as tie
 
 call-check-requires : tie.Need-call-check-requires
 call-check-requires c κs = search needs

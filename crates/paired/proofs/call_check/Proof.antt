@@ -1,9 +1,9 @@
 -- The lists that the library is lent are the case's, by the calls that took them. Assumes nothing.
 use mathlib.Core.Path.{sym}
-use Rattle.agreement.proofs.Same.{check-call}
+use Rattle.paired.proofs.Same.{check-call}
 use borrow.Author.Needs.{needs}
-use Rattle.agreement.proofs.call_check.Statement.{statement}
-use Rattle.agreement.proofs.call_check.Tie as tie
+use Rattle.paired.proofs.call_check.Statement.{statement}
+use Rattle.paired.proofs.call_check.Tie as tie
 
 given-requires : tie.Need-given-requires
 given-requires c κs = search needs

@@ -1,9 +1,9 @@
 -- The copies are the case's lists. Assumes nothing.
 use mathlib.Core.Path.{_∙_}
-use Rattle.agreement.proofs.Same.{check-lent}
+use Rattle.paired.proofs.Same.{check-lent}
 use borrow.Author.Needs.{needs}
-use Rattle.agreement.proofs.lowering_agrees.Statement.{statement}
-use Rattle.agreement.proofs.lowering_agrees.Tie as tie
+use Rattle.paired.proofs.lowering_agrees.Statement.{statement}
+use Rattle.paired.proofs.lowering_agrees.Tie as tie
 
 given-requires : tie.Need-given-requires
 given-requires c κs = search needs
