@@ -49,18 +49,29 @@ same-length-4 c = search needs
 
 returns : tie.Need-returns
 returns c =
-    let a = c .before .before .before .before .before .before .before .before .before .before .before .before .before .before .before .before .before .before .before .before .before .before .before .before .before .before .before .before .before .args in
+    let at-gilfrunt-check = c .before .before .before .before .before .before .before .before in
+    let at-given9 = at-gilfrunt-check .before .before .before .before .before in
+    let at-given8 = at-given9 .before in
+    let at-given7 = at-given8 .before in
+    let at-given6 = at-given7 .before in
+    let at-given5 = at-given6 .before in
+    let at-given4 = at-given5 .before in
+    let at-given3 = at-given4 .before in
+    let at-given2 = at-given3 .before in
+    let at-given = at-given2 .before in
+    let start = at-given .before .before .before .before .before .before .before .before in
+    let a = start .args in
     sym (check-call (a .words .now) (a .ebits .now) (a .tbits .now) (a .ws0 .now) (a .ws1 .now) (a .classes .now) (a .entries .now)
-    (c .before .before .before .before .before .before .before .before .before .before .before .before .before .before .before .before .before .before .before .before .before .given .ensures .0)
-    (c .before .before .before .before .before .before .before .before .before .before .before .before .before .before .before .before .before .before .before .before .given2 .ensures .0)
-    (c .before .before .before .before .before .before .before .before .before .before .before .before .before .before .before .before .before .before .before .given3 .ensures .0)
-    (c .before .before .before .before .before .before .before .before .before .before .before .before .before .before .before .before .before .before .given4 .ensures .0)
-    (c .before .before .before .before .before .before .before .before .before .before .before .before .before .before .before .before .before .given5 .ensures .0)
-    (c .before .before .before .before .before .before .before .before .before .before .before .before .before .before .before .before .given6 .ensures .0)
-    (c .before .before .before .before .before .before .before .before .before .before .before .before .before .before .before .given7 .ensures .0)
-    (c .before .before .before .before .before .before .before .before .before .before .before .before .before .before .given8 .ensures .0)
-    (c .before .before .before .before .before .before .before .before .before .before .before .before .before .given9 .ensures .0)
-    (sym (c .before .before .before .before .before .before .before .before .gilfrunt-check .ensures .0)))
+    (at-given .given .ensures .0)
+    (at-given2 .given2 .ensures .0)
+    (at-given3 .given3 .ensures .0)
+    (at-given4 .given4 .ensures .0)
+    (at-given5 .given5 .ensures .0)
+    (at-given6 .given6 .ensures .0)
+    (at-given7 .given7 .ensures .0)
+    (at-given8 .given8 .ensures .0)
+    (at-given9 .given9 .ensures .0)
+    (sym (at-gilfrunt-check .gilfrunt-check .ensures .0)))
 
 pub call-check-spec : {M : Type 1} → statement M
 call-check-spec =

@@ -55,10 +55,19 @@ lowering-agrees-requires c κs = search needs
 
 returns-4 : tie.Need-returns-4
 returns-4 c =
-    let w = c .before .before .before .before .before .before .before .before .before .before .before .before .before .before .before .before .args .words .now in
-    let ebits = c .before .before .before .before .before .before .before .before .before .copy-bytes .ensures .1 (not-false _ (c .before .before .before .before .before .before .before .if2 .left)) ∙ c .before .before .before .before .before .before .before .before .before .before .before .before .given .ensures .0 in
-    let tbits = c .before .before .before .before .before .copy-bytes2 .ensures .1 (not-false _ (c .before .before .before .if3 .left)) ∙ c .before .before .before .before .before .before .before .before .before .before .before .given2 .ensures .0 in
-    λ e. (sym (c .before .before .before .before .before .before .before .before .before .before .before .before .before .before .has-shape .ensures) ∙ not-false _ (c .before .before .before .before .before .before .before .before .before .before .before .before .before .if1 .left), check-bits w (given w 11) (given w 12) (given w 13) (given w 14) ebits tbits (c .lowering-agrees .ensures e))
+    let else3 = c .before .before .before in
+    let at-copy-bytes2 = else3 .before .before in
+    let else2 = at-copy-bytes2 .before .before in
+    let at-copy-bytes = else2 .before .before in
+    let at-given2 = at-copy-bytes .before .before in
+    let at-given = at-given2 .before in
+    let else1 = at-given .before in
+    let at-has-shape = else1 .before in
+    let start = at-has-shape .before .before in
+    let w = start .args .words .now in
+    let ebits = at-copy-bytes .copy-bytes .ensures .1 (not-false _ (else2 .if2 .left)) ∙ at-given .given .ensures .0 in
+    let tbits = at-copy-bytes2 .copy-bytes2 .ensures .1 (not-false _ (else3 .if3 .left)) ∙ at-given2 .given2 .ensures .0 in
+    λ e. (sym (at-has-shape .has-shape .ensures) ∙ not-false _ (else1 .if1 .left), check-bits w (given w 11) (given w 12) (given w 13) (given w 14) ebits tbits (c .lowering-agrees .ensures e))
 
 pub check-agrees-spec : {M : Type 1} → statement M
 check-agrees-spec =

@@ -70,12 +70,22 @@ same-check-requires c κs = search needs
 
 returns : tie.Need-returns
 returns c =
-    let a = c .before .before .before .before .before .before .before .before .before .before .before .before .before .before .before .before .before .before .before .before .before .before .before .before .before .before .before .before .args in
-    let ws0 = c .before .before .before .before .before .before .before .before .before .before .before .before .before .before .before .before .before .before .before .before .before .before .lend .ensures .1 ∙ c .before .before .before .before .before .before .before .before .before .before .before .before .before .before .before .before .before .before .before .before .before .before .before .before .given .ensures .0 in
-    let ws1 = c .before .before .before .before .before .before .before .before .before .before .before .before .before .before .before .before .before .before .lend2 .ensures .1 ∙ c .before .before .before .before .before .before .before .before .before .before .before .before .before .before .before .before .before .before .before .before .given2 .ensures .0 in
-    let classes = c .before .before .before .before .before .before .before .before .before .before .before .before .before .before .lend3 .ensures .1 ∙ c .before .before .before .before .before .before .before .before .before .before .before .before .before .before .before .before .given3 .ensures .0 in
-    let entries = c .before .before .before .before .before .before .before .before .before .before .lend4 .ensures .1 ∙ c .before .before .before .before .before .before .before .before .before .before .before .before .given4 .ensures .0 in
-    λ e. check-lent (a .words .now) (a .ebits .now) (a .tbits .now) ws0 ws1 classes entries (c .before .before .before .before .same-check .ensures e)
+    let at-same-check = c .before .before .before .before in
+    let at-lend4 = at-same-check .before .before .before .before .before .before in
+    let at-given4 = at-lend4 .before .before in
+    let at-lend3 = at-given4 .before .before in
+    let at-given3 = at-lend3 .before .before in
+    let at-lend2 = at-given3 .before .before in
+    let at-given2 = at-lend2 .before .before in
+    let at-lend = at-given2 .before .before in
+    let at-given = at-lend .before .before in
+    let start = at-given .before .before .before .before in
+    let a = start .args in
+    let ws0 = at-lend .lend .ensures .1 ∙ at-given .given .ensures .0 in
+    let ws1 = at-lend2 .lend2 .ensures .1 ∙ at-given2 .given2 .ensures .0 in
+    let classes = at-lend3 .lend3 .ensures .1 ∙ at-given3 .given3 .ensures .0 in
+    let entries = at-lend4 .lend4 .ensures .1 ∙ at-given4 .given4 .ensures .0 in
+    λ e. check-lent (a .words .now) (a .ebits .now) (a .tbits .now) ws0 ws1 classes entries (at-same-check .same-check .ensures e)
 
 pub lowering-agrees-spec : {M : Type 1} → statement M
 lowering-agrees-spec =

@@ -61,7 +61,13 @@ same-length-12 : tie.Need-same-length-12
 same-length-12 c = search needs
 
 returns-3 : tie.Need-returns-3
-returns-3 c = λ e. same-checked (c .before .before .before .before .before .before .before .before .before .before .before .before .before .before .before .before .before .call-check .ensures) (c .before .before .before .before .before .before .before .before .same-answer .ensures .0 (not-false _ (c .before .before .before .before .before .before .before .if1 .left))) (c .before .before .before .before .same-both .ensures (not-false _ (c .before .before .before .if2 .left))) (c .same-both2 .ensures e)
+returns-3 c =
+    let else2 = c .before .before .before in
+    let at-same-both = else2 .before in
+    let else1 = at-same-both .before .before .before in
+    let at-same-answer = else1 .before in
+    let at-call-check = at-same-answer .before .before .before .before .before .before .before .before .before in
+    λ e. same-checked (at-call-check .call-check .ensures) (at-same-answer .same-answer .ensures .0 (not-false _ (else1 .if1 .left))) (at-same-both .same-both .ensures (not-false _ (else2 .if2 .left))) (c .same-both2 .ensures e)
 
 pub same-check-spec : {M : Type 1} → statement M
 same-check-spec =
