@@ -38,7 +38,7 @@ fn book_agrees(words: &[u64]) -> bool
     let list = cases::given(words, 0);
     let n = list.len();
     let mut bytes = [0u8; cases::ROOM];
-    if !cases::copy_bytes(list, &mut bytes) {
+    if !copies::copy_bytes(list, &mut bytes) {
         return false;
     }
     let a = judge::verdict(&bytes[..n]);
@@ -53,7 +53,7 @@ fn same_stretch(words: &[u64], book: &[u8], number: u64) -> bool
     if !cases::same_answer(words, a) {
         return false;
     }
-    cases::same_bytes(book::section(book, number), cases::expected(words, 0))
+    copies::same_bytes(book::section(book, number), cases::expected(words, 0))
 }
 
 // With the section's number, the one word of list 1.
@@ -79,7 +79,7 @@ fn section_agrees(words: &[u64]) -> bool
     let list = cases::given(words, 0);
     let n = list.len();
     let mut bytes = [0u8; cases::ROOM];
-    if !cases::copy_bytes(list, &mut bytes) {
+    if !copies::copy_bytes(list, &mut bytes) {
         return false;
     }
     same_section(words, &bytes[..n])

@@ -73,10 +73,10 @@ fn lowering_agrees(words: &[u64], ebits: &[u8], tbits: &[u8]) -> bool
     let mut ws1 = [0u64; cases::ROOM];
     let mut classes = [0u64; cases::ROOM];
     let mut entries = [0u64; cases::ROOM];
-    let n0 = cases::lend(cases::given(words, 11), &mut ws0);
-    let n1 = cases::lend(cases::given(words, 12), &mut ws1);
-    let n2 = cases::lend(cases::given(words, 13), &mut classes);
-    let n3 = cases::lend(cases::given(words, 14), &mut entries);
+    let n0 = copies::lend(cases::given(words, 11), &mut ws0);
+    let n1 = copies::lend(cases::given(words, 12), &mut ws1);
+    let n2 = copies::lend(cases::given(words, 13), &mut classes);
+    let n3 = copies::lend(cases::given(words, 14), &mut entries);
     same_check(
         words,
         ebits,
@@ -102,10 +102,10 @@ pub fn check_agrees(words: &[u64]) -> bool
     let m = bits_too.len();
     let mut ebits = [0u8; cases::ROOM];
     let mut tbits = [0u8; cases::ROOM];
-    if !cases::copy_bytes(bits, &mut ebits) {
+    if !copies::copy_bytes(bits, &mut ebits) {
         return false;
     }
-    if !cases::copy_bytes(bits_too, &mut tbits) {
+    if !copies::copy_bytes(bits_too, &mut tbits) {
         return false;
     }
     lowering_agrees(words, &ebits[..n], &tbits[..m])

@@ -43,10 +43,10 @@ pub fn widths_agree(words: &[u64], source: bool, lists: u64) -> bool
     let b = bits.len();
     let mut bytes = [0u8; cases::ROOM];
     let mut widths = [0u64; cases::ROOM];
-    if !cases::copy_bytes(bits, &mut bytes) {
+    if !copies::copy_bytes(bits, &mut bytes) {
         return false;
     }
-    let n = cases::lend(cases::given(words, lists as usize - 1), &mut widths);
+    let n = copies::lend(cases::given(words, lists as usize - 1), &mut widths);
     same_widths(words, source, &bytes[..b], &mut widths[..n])
 }
 
@@ -86,10 +86,10 @@ pub fn values_agree(words: &[u64]) -> bool
     let mut bytes = [0u8; cases::ROOM];
     let mut widths = [0u64; cases::ROOM];
     let mut numbers = [0u64; cases::ROOM];
-    if !cases::copy_bytes(bits, &mut bytes) {
+    if !copies::copy_bytes(bits, &mut bytes) {
         return false;
     }
-    let n = cases::lend(cases::given(words, 3), &mut widths);
-    let m = cases::lend(cases::given(words, 4), &mut numbers);
+    let n = copies::lend(cases::given(words, 3), &mut widths);
+    let m = copies::lend(cases::given(words, 4), &mut numbers);
     same_values(words, &bytes[..b], &mut widths[..n], &mut numbers[..m])
 }

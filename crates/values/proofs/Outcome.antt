@@ -18,7 +18,7 @@ use Rattle.rows.specs.declared.Graph.the-variants.{Target}
 use Rattle.rows.specs.Row.{rowCount, ragged}
 use Rattle.rows.specs.Encoding.{badRow, badBit}
 use Rattle.wf.specs.Widths.{illRow, widths, rowWidth}
-use Rattle.widths.specs.Widths.{rowsAnswer}
+use Rattle.refusals.specs.Rows.{rowsAnswer}
 use Rattle.values.proofs.Given.{given-tests}
 use Rattle.values.specs.Values.{wideRow, badWord, givenAnswer, valuesAnswer, values}
 
@@ -65,7 +65,7 @@ module _ (g bits given ws vs : List ℕ) where
       module _ (room-too : rowCount Target g ≤ length vs) where
         pub values-rows : isAccepted (rowsAnswer Target g bits (illRow Target (length bits) [] g)) ≡ false
             → values g bits given ws vs
-            ≡ result (rowsAnswer Target g bits (illRow Target (length bits) [] g)) ((replicate (length ws) 0) ∷ (replicate (length vs) 0) ∷ [])
+            ≡ result (rowsAnswer Target g bits (illRow Target (length bits) [] g)) (replicate (length ws) 0 ∷ replicate (length vs) 0 ∷ [])
         values-rows e =
             settled (rowsAnswer Target g bits (illRow Target (length bits) [] g)) (rw (whole, le-ltb _ _ room, le-ltb _ _ room-too, e))
             ∙ ap₂ (λ (k l : List ℕ). result (rowsAnswer Target g bits (illRow Target (length bits) [] g)) (k ∷ l ∷ [])) (zero ws (widths Target (length bits) [] g)) (zero vs (numbersTo g bits given (rowCount Target g)))
@@ -81,7 +81,7 @@ module _ (g bits given ws vs : List ℕ) where
 
           pub values-given : isAccepted (givenAnswer g (widths Target (length bits) [] g) given) ≡ false
               → values g bits given ws vs
-              ≡ result (givenAnswer g (widths Target (length bits) [] g) given) ((replicate (length ws) 0) ∷ (replicate (length vs) 0) ∷ [])
+              ≡ result (givenAnswer g (widths Target (length bits) [] g) given) (replicate (length ws) 0 ∷ replicate (length vs) 0 ∷ [])
           values-given e =
               settled (givenAnswer g (widths Target (length bits) [] g) given) answer-is
               ∙ ap₂ (λ (k l : List ℕ). result (givenAnswer g (widths Target (length bits) [] g) given) (k ∷ l ∷ [])) (zero ws (widths Target (length bits) [] g)) (zero vs (numbersTo g bits given (rowCount Target g)))

@@ -17,7 +17,8 @@ use Rattle.rows.specs.declared.Graph.the-variants.{Target}
 use Rattle.rows.specs.Row.{rowCount, ragged}
 use Rattle.rows.specs.Encoding.{badRow, badBit}
 use Rattle.wf.specs.Widths.{illRow, widths, rowWidth}
-use Rattle.widths.specs.Widths.{rowsAnswer, targetWidths}
+use Rattle.refusals.specs.Rows.{rowsAnswer}
+use Rattle.widths.specs.Widths.{targetWidths}
 use Rattle.values.proofs.Given.{rows-tests}
 use Rattle.values.proofs.Outcome.{rows-zero}
 

@@ -15,7 +15,7 @@ use Rattle.rows.specs.Row.{graphNumber, rowCount, ragged, rowAt}
 use Rattle.rows.specs.Tags.{tVar}
 use Rattle.value.specs.Graph.{numbersTo}
 use Rattle.wf.specs.Widths.{illRow, widths}
-use Rattle.widths.specs.Widths.{rowsAnswer}
+use Rattle.refusals.specs.Rows.{rowsAnswer}
 
 -- 21: "first row above 64"
 abbrev pub rowWide : List ℕ → ℕ → Bool

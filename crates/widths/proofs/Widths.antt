@@ -19,7 +19,8 @@ use Rattle.rows.specs.Encoding.{badRow, badBit}
 use Rattle.wf.specs.Widths.{illRow, widths, widthsTo, rowWidth}
 use Rattle.wf.specs.Pass.{stopRow}
 use Rattle.wf.proofs.Stop.{stop-none, stop-ill}
-use Rattle.widths.specs.Widths.{illFormed, rowsAnswer, graphWidths}
+use Rattle.refusals.specs.Rows.{illFormed, rowsAnswer}
+use Rattle.widths.specs.Widths.{graphWidths}
 
 -- a bad row, a bad bit and an ill-formed row zero the list
 lent-zero : (p q : Bool) (graph : Graph) (a b d row : ℕ) (old new : List ℕ)
@@ -55,14 +56,14 @@ module _ (graph : Graph) (g bits side ws : List ℕ) where
 
     module _ (room : rowCount graph g ≤ length ws) where
       pub widths-stop : stopRow graph (length bits) side g < rowCount graph g
-          → graphWidths graph g bits side ws ≡ result (rowsAnswer graph g bits (stopRow graph (length bits) side g)) ((replicate (length ws) 0) ∷ [])
+          → graphWidths graph g bits side ws ≡ result (rowsAnswer graph g bits (stopRow graph (length bits) side g)) (replicate (length ws) 0 ∷ [])
       widths-stop h =
           rw (whole, le-ltb _ _ room, stop-answer h)
           (ap (λ (l : List ℕ). result (rowsAnswer graph g bits (stopRow graph (length bits) side g)) (l ∷ [])) (lent-rows graph g bits (stopRow graph (length bits) side g) h ws (widths graph (length bits) side g)))
 
       module _ (all : rowCount graph g ≤ stopRow graph (length bits) side g) where
         pub widths-17 : badBit bits < length bits
-            → graphWidths graph g bits side ws ≡ result (BadBit (badBit bits) (graphNumber graph)) ((replicate (length ws) 0) ∷ [])
+            → graphWidths graph g bits side ws ≡ result (BadBit (badBit bits) (graphNumber graph)) (replicate (length ws) 0 ∷ [])
         widths-17 h =
             let good : rowCount graph g ≤ badRow graph g = omega (arith, stop-none graph (length bits) side g all .0) in
             rw (whole, le-ltb _ _ room, le-ltb _ _ good, lt-ltb _ _ h)

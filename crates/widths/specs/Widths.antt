@@ -5,25 +5,13 @@ use mathlib.Core.List.{List, [], _∷_}
 use lib.Dec.{ltb}
 use lib.ListN.{length}
 use Rattle.answers.specs.declared.Answer.{Answer}
-use Rattle.answers.specs.declared.Answer.the-variants.{Accepted, Ext, Core, RowCount, BadRow, BadBit, WorkShort, BadRoot}
+use Rattle.answers.specs.declared.Answer.the-variants.{Accepted, RowCount, WorkShort, BadRoot}
 use Rattle.answers.specs.Result.{Result, leaves}
 use Rattle.rows.specs.declared.Graph.{Graph}
 use Rattle.rows.specs.declared.Graph.the-variants.{Source, Target}
 use Rattle.rows.specs.Row.{graphNumber, rowCount, ragged}
-use Rattle.rows.specs.Encoding.{badRow, badBit}
+use Rattle.refusals.specs.Rows.{rowsAnswer}
 use Rattle.wf.specs.Widths.{illRow, widths, badRoot}
-
--- "1 Ext (row); 2 Core (row)"
-abbrev pub illFormed : Graph → ℕ → Answer
-illFormed Source row = Ext row
-illFormed Target row = Core row
-
--- 16, 17, then the row named as ill-formed, if it is a row: each is looked for everywhere before the next
-abbrev pub rowsAnswer : Graph → List ℕ → List ℕ → ℕ → Answer
-rowsAnswer graph g bits ill =
-    let n = rowCount graph g in
-    cond (ltb (badRow graph g) n) (BadRow (badRow graph g) (graphNumber graph))
-    (cond (ltb (badBit bits) (length bits)) (BadBit (badBit bits) (graphNumber graph)) (cond (ltb ill n) (illFormed graph ill) Accepted))
 
 -- "15, 18, 16, 17, then 1 or 2", over a lent list with room for some words. "With Check's places": 18 names the source's list by 1, the target's by 2
 abbrev pub widthsAnswer : Graph → List ℕ → List ℕ → List ℕ → ℕ → Answer

@@ -1,7 +1,7 @@
 -- A number for each graph. Assumes nothing.
 use borrow.Author.Needs.{needs}
-use Rattle.widths.proofs.ill_formed.Statement.{statement}
-use Rattle.widths.proofs.ill_formed.Tie as tie
+use Rattle.refusals.proofs.ill_formed.Statement.{statement}
+use Rattle.refusals.proofs.ill_formed.Tie as tie
 
 enum-told : tie.Need-enum-told
 enum-told c = search needs

@@ -1,8 +1,8 @@
 -- Each return is a path through the definition's tests. Assumes nothing.
 use borrow.Author.Tests.{lt-ltb, le-ltb}
 use borrow.Author.Needs.{needs}
-use Rattle.widths.proofs.refusal.Statement.{statement}
-use Rattle.widths.proofs.refusal.Tie as tie
+use Rattle.refusals.proofs.refusal.Statement.{statement}
+use Rattle.refusals.proofs.refusal.Tie as tie
 
 graph-number-requires : tie.Need-graph-number-requires
 graph-number-requires c κs = search needs
