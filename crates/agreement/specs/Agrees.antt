@@ -1,61 +1,15 @@
 -- When the library's definitions answer a case as it expects: the number, place and detail, and every lent list. Assumes nothing.
-use Prim.Native.Nat.{ℕ, _-_}
+use Prim.Native.Nat.{ℕ}
 use mathlib.Core.Path.{_≡_}
-use mathlib.Core.Bool.{Bool, true, false, cond}
+use mathlib.Core.Bool.{true, false}
 use mathlib.Core.List.{List}
 use lib.ListN.{length, getD}
 use Rattle.answers.specs.Answer.{wordsOf}
-use Rattle.widths.specs.Widths.{Out, sourceWidths, targetWidths, rootsAnswer}
-use Rattle.values.specs.Values.{values}
-use Rattle.lowering.specs.Lowering.{lowering}
-use Rattle.lowering.specs.Check.{Outcome, check}
 use Rattle.book.specs.Book.{sectionAnswer, section}
 use Rattle.judge.specs.Judge.{verdict}
-use Rattle.gilfrunt.specs.Exports.{result, resultOf, results, resultsOf, checked, checkedOf}
 use Rattle.cases.specs.Case.{given, answer, expected, hasShape}
-
--- a line has at most so many words
-abbrev pub room : ℕ
-room = 1024
-
--- widths of a source or a target on a case's rows and side list
-abbrev pub widthsOf : Bool → List ℕ → List ℕ → List ℕ → Out
-widthsOf source w bits lent = cond source (sourceWidths (given w 0) bits (given w 2) lent) (targetWidths (given w 0) bits lent)
-
-abbrev pub SameWidths : Bool → List ℕ → List ℕ → List ℕ → Type 0
-SameWidths source w bits lent = resultOf (widthsOf source w bits lent) ≡ result (answer w) (expected w 0)
-
--- the bits are list 1, the lent list is the last
-abbrev pub WidthsAgree : Bool → ℕ → List ℕ → Type 0
-WidthsAgree source lists w = (hasShape w lists 1 ≡ true) × SameWidths source w (given w 1) (given w (lists - 1))
-
-abbrev pub RootsAgree : List ℕ → Type 0
-RootsAgree w = (hasShape w 2 0 ≡ true) × (wordsOf (rootsAnswer (given w 0) (given w 1)) ≡ answer w)
-
--- Values on a case's rows and given words
-abbrev pub SameValues : List ℕ → List ℕ → List ℕ → List ℕ → Type 0
-SameValues w bits widths numbers =
-    resultsOf (values (given w 0) bits (given w 2) widths numbers) ≡ results (answer w) (expected w 0) (expected w 1)
-
--- the bits are list 1, the lent lists are 3 and 4
-abbrev pub ValuesAgree : List ℕ → Type 0
-ValuesAgree w = (hasShape w 5 2 ≡ true) × SameValues w (given w 1) (given w 3) (given w 4)
-
--- Check on a case's lists, with these bits and lent lists
-abbrev pub checkOf : List ℕ → List ℕ → List ℕ → List ℕ → List ℕ → List ℕ → List ℕ → Outcome
-checkOf w ebits tbits ws0 ws1 classes entries =
-    check
-    (lowering (given w 0) ebits (given w 2) (given w 3) (given w 4) (given w 5) (given w 6) (given w 7) (given w 8) tbits (given w 10))
-    ws0 ws1 classes entries
-
-abbrev pub SameCheck : List ℕ → List ℕ → List ℕ → List ℕ → List ℕ → List ℕ → List ℕ → Type 0
-SameCheck w ebits tbits ws0 ws1 classes entries =
-    checkedOf (checkOf w ebits tbits ws0 ws1 classes entries) ≡ checked (answer w) (expected w 0) (expected w 1) (expected w 2) (expected w 3)
-
--- the bits are lists 1 and 9, the lent lists are 11 to 14
-abbrev pub CheckAgrees : List ℕ → Type 0
-CheckAgrees w =
-    (hasShape w 15 4 ≡ true) × SameCheck w (given w 1) (given w 9) (given w 11) (given w 12) (given w 13) (given w 14)
+use Rattle.single.specs.Single.{WidthsAgree, RootsAgree, ValuesAgree}
+use Rattle.paired.specs.Paired.{CheckAgrees}
 
 -- the book is list 0
 abbrev pub BookAgrees : List ℕ → Type 0

@@ -1,12 +1,10 @@
--- Books computed: 01's empty book, each place of 20 but the program's own, section numbers, words. Assumes nothing.
+-- Books computed: 01's empty book, each place of 20 but the program's own, section numbers. Assumes nothing.
 use Prim.Native.Nat.{ℕ, zero, suc}
 use mathlib.Core.Path.{_≡_, refl}
 use mathlib.Core.List.{List, [], _∷_, _++_}
 use Rattle.answers.specs.declared.Answer.the-variants.{Accepted, BookShape, NoSection}
 use Rattle.lists.specs.First.{first}
-use Rattle.lists.specs.Build.{build}
 use Rattle.book.specs.Book.{bookAnswer, sectionAnswer, section}
-use Rattle.book.specs.Words.{listOf, loaded}
 
 -- a word below 256, an entry of the contents, so many copies of it
 abbrev word : ℕ → List ℕ
@@ -56,7 +54,7 @@ unfolding first copies
 wrapped = refl
 
 -- a book with three bits in section 2 and a root in section 11
-abbrev small : List ℕ
+abbrev pub small : List ℕ
 small = entry 176 0 ++ (entry 176 3 ++ (copies 8 (entry 179 0) ++ (entry 179 8 ++ (1 ∷ 0 ∷ 1 ∷ (2 ∷ 1 ∷ 0 ∷ 0 ∷ 0 ∷ 0 ∷ 0 ∷ 0 ∷ [])))))
 
 small-good : bookAnswer small ≡ Accepted
@@ -66,14 +64,6 @@ small-good = refl
 small-bits : section small 2 ≡ 1 ∷ 0 ∷ 1 ∷ []
 unfolding first copies
 small-bits = refl
-
-small-roots : listOf small 10 ≡ 258 ∷ []
-unfolding build copies
-small-roots = refl
-
-small-words : loaded small 11 ≡ 258 ∷ []
-unfolding loaded build copies
-small-words = refl
 
 -- "24 NoSection for a number outside 1 to 11", also of no book
 no-section : sectionAnswer [] 0 ≡ NoSection

@@ -1,3 +1,2 @@
 pub mod Shape
-pub mod Words
 pub mod Cases

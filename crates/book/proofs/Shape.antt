@@ -12,7 +12,7 @@ use Rattle.answers.specs.Answer.{isAccepted}
 use Rattle.lists.proofs.Choice.{no-way}
 use Rattle.lists.proofs.First.{first-before}
 use Rattle.book.specs.Book.{sections, contents, startOf, lengthOf, endOf, dueAt, isBits, badSection, firstBad, bookAnswer, sectionAnswer, body, sectionPlace, section}
-use Rattle.book.specs.Words.{Good}
+use Rattle.book.specs.Good.{Good}
 
 -- a sum in words: it wraps where it comes out below its first part
 module _ (start len end : ℕ) (e : end ≡ (start + len) % 2 ^ 64) (s : start < 2 ^ 64) (l : len < 2 ^ 64) where

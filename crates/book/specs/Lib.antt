@@ -1,2 +1,2 @@
 pub mod Book
-pub mod Words
+pub mod Good

@@ -1,13 +1,11 @@
-// Books: their table of contents, their sections, and the words that they hold. Entry i of the contents is section i + 1's.
+// Books: their table of contents and their sections. Entry i of the contents is section i + 1's.
 ghost use mathlib.Core.Path.{_≡_};
-ghost use mathlib.Core.List.{_++_};
-ghost use mathlib.Core.Bool.{true};
-ghost use Prim.Native.Nat.{_+_, _*_, _/_, _≤_, _<_};
+ghost use Prim.Native.Nat.{_+_, _≤_, _<_};
 ghost use lib.Dec.{ltb};
-ghost use lib.ListN.{length, take, drop};
+ghost use lib.ListN.{length};
 ghost use Rattle.book.specs.Book.{wordAt, sections, contents, startOf, lengthOf, endOf, dueAt, isBits, badSection, firstBad, bookAnswer};
 ghost use Rattle.book.specs.Book.{sectionAnswer, body, sectionPlace, section};
-ghost use Rattle.book.specs.Words.{wordsOfBytes, listOf, loaded, Good};
+ghost use Rattle.book.specs.Good.{Good};
 use answers::Answer;
 
 // A part of a book: its first byte's place and its length in bytes.
@@ -28,7 +26,7 @@ fn wide(x: u8) -> u64
 }
 
 // The little-endian word at a place.
-fn word(b: &[u8], at: usize) -> u64
+pub fn word(b: &[u8], at: usize) -> u64
     requires { ⌜ at + 8 ≤ length (now b) ⌝ }
     ensures value { λ r. ⌜ r ≡ wordAt (now (b .entry)) at ⌝ }
 {
@@ -50,14 +48,14 @@ fn start_of(book: &[u8], i: usize) -> u64
     word(book, 16 * i)
 }
 
-fn length_of(book: &[u8], i: usize) -> u64
+pub fn length_of(book: &[u8], i: usize) -> u64
     requires { ⌜ (i < sections) × (contents ≤ length (now book)) ⌝ }
     ensures value { λ r. ⌜ r ≡ lengthOf (now (book .entry)) i ⌝ }
 {
     word(book, 16 * i + 8)
 }
 
-fn is_bits(i: usize) -> bool
+pub fn is_bits(i: usize) -> bool
     ensures test { λ r. ⌜ r ≡ isBits i ⌝ }
 {
     if i == 1 {
@@ -188,81 +186,4 @@ pub fn section_place(book: &[u8], number: u64) -> Stretch
         start: start_of(book, i),
         length: length_of(book, i),
     }
-}
-
-// The words of some bytes, put at the start of a list.
-fn read_words(bytes: &[u8], out: &mut [u64])
-    requires { ⌜ length (now bytes) / 8 ≤ length (now out) ⌝ }
-    ensures list { λ _. ⌜ now (out .exit) ≡ wordsOfBytes (now (bytes .entry)) ++ drop (length (now (bytes .entry)) / 8) (now (out .entry)) ⌝ }
-{
-    let n = bytes.len() / 8;
-    let mut j = 0;
-    while j < n {
-        out[j] = word(bytes, 8 * j);
-        j += 1;
-    }
-}
-
-// How many words section i + 1 has.
-pub fn word_count(book: &[u8], i: usize) -> usize
-    requires { ⌜ (i < sections) × Good (now book) ⌝ }
-    ensures count { λ r. ⌜ r ≡ length (listOf (now (book .entry)) i) ⌝ }
-{
-    if is_bits(i) {
-        return 0;
-    }
-    length_of(book, i) as usize / 8
-}
-
-// How many words the first i sections have.
-pub fn offset(book: &[u8], i: usize) -> usize
-    requires { ⌜ (i ≤ sections) × Good (now book) ⌝ }
-    ensures count { λ r. ⌜ r ≡ length (loaded (now (book .entry)) i) ⌝ }
-{
-    let mut at = 0;
-    let mut k = 0;
-    while k < i {
-        at += word_count(book, k);
-        k += 1;
-    }
-    at
-}
-
-// Section i + 1's words, put in a list after those of the sections before.
-fn load_section(book: &[u8], i: usize, words: &mut [u64])
-    requires { ⌜ (i < sections) × Good (now book) ⌝ }
-    requires { ⌜ length (loaded (now book) i) + length (listOf (now book) i) ≤ length (now words) ⌝ }
-    ensures list { λ _. ⌜ now (words .exit) ≡ take (length (loaded (now (book .entry)) i)) (now (words .entry)) ++ (listOf
-        (now (book .entry)) i ++ drop (length (loaded (now (book .entry)) i) + length (listOf (now (book .entry)) i)) (now (words .entry))) ⌝ }
-{
-    if is_bits(i) {
-        return;
-    }
-    let at = offset(book, i);
-    read_words(body(book, i), &mut words[at..]);
-}
-
-// All words of a book, put at the start of a list.
-pub fn load(book: &[u8], words: &mut [u64])
-    requires { ⌜ Good (now book) ⌝ }
-    requires { ⌜ length (loaded (now book) sections) ≤ length (now words) ⌝ }
-    ensures list { λ _. ⌜ now (words .exit) ≡ loaded (now (book .entry)) sections ++ drop (length (loaded (now (book .entry)) sections))
-        (now (words .entry)) ⌝ }
-{
-    let mut i = 0;
-    while i < SECTIONS {
-        load_section(book, i, words);
-        i += 1;
-    }
-}
-
-// Section i + 1's words in a list that holds the book's.
-pub fn list_at<'a>(book: &[u8], words: &'a [u64], i: usize) -> &'a [u64]
-    requires { ⌜ (i < sections) × Good (now book) ⌝ }
-    requires { ⌜ now words ≡ loaded (now book) sections ++ drop (length (loaded (now book) sections)) (now words) ⌝ }
-    ensures list { λ r. ⌜ now r ≡ listOf (now (book .entry)) i ⌝ }
-{
-    let from = offset(book, i);
-    let end = offset(book, i + 1);
-    &words[from..end]
 }

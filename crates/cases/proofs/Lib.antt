@@ -1,3 +1,2 @@
 -- The proofs' own laws.
 pub mod Case
-pub mod Copy

@@ -7,6 +7,10 @@ use lib.Dec.{eqb}
 use lib.ListN.{length, getD, take, drop}
 use Rattle.answers.specs.declared.Words.{Words}
 
+-- a line has at most so many words, and so has each of its lists
+abbrev pub room : ℕ
+room = 1024
+
 -- the place after the list whose count stands at a place; one past the end where the list would run past it
 abbrev pub after : List ℕ → ℕ → ℕ
 after w at = min (at + 1 + getD w at 0) (length w + 1)

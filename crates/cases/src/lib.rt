@@ -3,10 +3,12 @@
 ghost use mathlib.Core.Path.{_≡_};
 ghost use mathlib.Core.Bool.{true};
 ghost use Prim.Native.Nat.{_+_, _≤_, max};
-ghost use lib.ListN.{length, getD, take};
-ghost use Rattle.io.specs.Counts.{Counts};
+ghost use lib.ListN.{length, getD};
 ghost use Rattle.cases.specs.Case.{after, afterLists, listAt, given, answerAt, answer, expected, hasShape};
 use answers::Words;
+
+// The longest line, and so the longest list: a line has no more words.
+pub const ROOM: usize = 1024;
 
 // The word at a place, and 0 past the end.
 fn word_at(words: &[u64], at: usize) -> u64
@@ -116,29 +118,12 @@ pub fn same_answer(words: &[u64], a: Words) -> bool
     a.detail == word_at(words, at + 2)
 }
 
-// Whether two lists are equal.
-pub fn same_list(a: &[u64], b: &[u64]) -> bool
-    ensures equal { λ r. ⌜ (r ≡ true → now (a .entry) ≡ now (b .entry)) × (now (a .entry) ≡ now (b .entry) → r ≡ true) ⌝ }
-{
-    if a.len() != b.len() {
-        return false;
-    }
-    let mut i = 0;
-    while i < a.len() {
-        if a[i] != b[i] {
-            return false;
-        }
-        i += 1;
-    }
-    true
-}
-
 // Whether a list is lent list k as it must be after the call.
 pub fn same_lent(words: &[u64], k: usize, list: &[u64]) -> bool
     ensures equal { λ r. ⌜ (r ≡ true → now (list .entry) ≡ expected (now (words .entry)) k)
         × (now (list .entry) ≡ expected (now (words .entry)) k → r ≡ true) ⌝ }
 {
-    same_list(list, expected(words, k))
+    copies::same_list(list, expected(words, k))
 }
 
 // Whether two lists are lent lists k and k + 1.
@@ -151,59 +136,4 @@ pub fn same_both(words: &[u64], k: usize, a: &[u64], b: &[u64]) -> bool
         return false;
     }
     same_lent(words, k + 1, b)
-}
-
-fn wide(x: u8) -> u64
-    ensures value { λ r. ⌜ r ≡ x ⌝ }
-{
-    x as u64
-}
-
-// Whether bytes are a list's words.
-pub fn same_bytes(a: &[u8], b: &[u64]) -> bool
-    ensures equal { λ r. ⌜ (r ≡ true → now (a .entry) ≡ now (b .entry)) × (now (a .entry) ≡ now (b .entry) → r ≡ true) ⌝ }
-{
-    if a.len() != b.len() {
-        return false;
-    }
-    let mut i = 0;
-    while i < a.len() {
-        if wide(a[i]) != b[i] {
-            return false;
-        }
-        i += 1;
-    }
-    true
-}
-
-// Puts a list at the start of out, and gives its length.
-pub fn lend(list: &[u64], out: &mut [u64]) -> usize
-    requires { ⌜ length (now list) ≤ length (now out) ⌝ }
-    ensures room { λ r. ⌜ Counts r (now (out .exit)) ⌝ }
-    ensures copied { λ r. ⌜ take r (now (out .exit)) ≡ now (list .entry) ⌝ }
-{
-    let mut i = 0;
-    while i < list.len() {
-        out[i] = list[i];
-        i += 1;
-    }
-    i
-}
-
-// Puts a list at the start of out. False where a word is no byte.
-pub fn copy_bytes(list: &[u64], out: &mut [u8]) -> bool
-    requires { ⌜ length (now list) ≤ length (now out) ⌝ }
-    ensures room { λ _. ⌜ Counts (length (now (list .entry))) (now (out .exit)) ⌝ }
-    ensures copied { λ r. ⌜ (r ≡ true → take (length (now (list .entry))) (now (out .exit)) ≡ now (list .entry)) ⌝ }
-{
-    let mut i = 0;
-    while i < list.len() {
-        let x = list[i];
-        if 255 < x {
-            return false;
-        }
-        out[i] = x as u8;
-        i += 1;
-    }
-    true
 }

@@ -13,7 +13,8 @@ use Rattle.lowering.specs.Lowering.{Lowering}
 use Rattle.lowering.specs.Check.{Outcome, outcome, check}
 use Rattle.soundness.specs.Sound.{Sound}
 use Rattle.soundness.proofs.Theorem.{sound}
-use Rattle.judge.specs.Judge.{held, Judged, judged, judge}
+use Rattle.loaded.specs.Held.{held}
+use Rattle.judge.specs.Judge.{Judged, judged, judge}
 use Rattle.judge.proofs.Sound.{judge-sound}
 
 -- "acceptance is number 0"

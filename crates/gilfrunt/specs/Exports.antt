@@ -1,37 +1,12 @@
--- What the exported functions answer: an operation's outcome with its answer as three words. Assumes nothing.
+-- What the exported functions of Check and of a book's verdict answer: the outcome with its answer as three words. Assumes nothing.
 use mathlib.Core.List.{List}
 use Prim.Native.Nat.{ℕ}
 use Rattle.answers.specs.declared.Words.{Words}
 use Rattle.answers.specs.Answer.{wordsOf}
-use Rattle.widths.specs.Widths.{Out}
-use Rattle.values.specs.Values as values
 use Rattle.lowering.specs.Check.{Outcome}
 use Rattle.judge.specs.Judge.{Judged}
 
--- number, place and detail, and the lent list afterwards
-pub record Result : Type 0 where
-  pub words : Words
-  pub list : List ℕ
-
-abbrev pub result : Words → List ℕ → Result
-result w l = record { words = w; list = l }
-
-abbrev pub resultOf : Out → Result
-resultOf o = result (wordsOf (o .answer)) (o .list)
-
--- the same with two lent lists
-pub record Results : Type 0 where
-  pub words : Words
-  pub first : List ℕ
-  pub second : List ℕ
-
-abbrev pub results : Words → List ℕ → List ℕ → Results
-results w k l = record { words = w; first = k; second = l }
-
-abbrev pub resultsOf : values.Out → Results
-resultsOf o = results (wordsOf (o .answer)) (o .widths) (o .values)
-
--- the same with Check's four lists
+-- number, place and detail, and Check's four lists afterwards
 pub record Checked : Type 0 where
   pub words : Words
   pub source-widths : List ℕ

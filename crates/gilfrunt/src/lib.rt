@@ -1,11 +1,14 @@
 // The operations over numbers and slices, for C and Rust (include/gilfrunt.h).
 ghost use mathlib.Core.Path.{_≡_};
+ghost use mathlib.Core.List.{[], _∷_};
 ghost use Rattle.answers.specs.Answer.{wordsOf};
+ghost use Rattle.answers.specs.Result.{told, toldOf};
 ghost use Rattle.widths.specs.Widths.{sourceWidths, targetWidths, rootsAnswer};
 ghost use Rattle.values.specs.Values.{values};
-ghost use Rattle.gilfrunt.specs.Exports.{result, resultOf, results, resultsOf, checked, checkedOf, judgement, judgementOf};
+ghost use Rattle.gilfrunt.specs.Exports.{checked, checkedOf, judgement, judgementOf};
 ghost use Rattle.book.specs.Book.{sectionAnswer, sectionPlace};
-ghost use Rattle.judge.specs.Judge.{held, judge};
+ghost use Rattle.loaded.specs.Held.{held};
+ghost use Rattle.judge.specs.Judge.{judge};
 ghost use Rattle.lowering.specs.Lowering.{lowering};
 ghost use Rattle.lowering.specs.Check.{check};
 ghost use Rattle.soundness.specs.Sound.{Sound};
@@ -19,28 +22,25 @@ pub extern "C" fn gilfrunt_source_widths(
     side: &[u64],
     widths: &mut [u64],
 ) -> Words
-    ensures outcome { λ r. ⌜ result r (now (widths .exit)) ≡ resultOf (sourceWidths (now (source .entry)) (now (bits .entry)) (now (side .entry))
+    ensures outcome { λ r. ⌜ told r (now (widths .exit) ∷ []) ≡ toldOf (sourceWidths (now (source .entry)) (now (bits .entry)) (now (side .entry))
         (now (widths .entry))) ⌝ }
 {
-    let a = widths::source_widths(source, bits, side, widths);
-    answers::words_of(a)
+    told::source_widths(source, bits, side, widths)
 }
 
 #[no_mangle]
 pub extern "C" fn gilfrunt_target_widths(target: &[u64], bits: &[u8], widths: &mut [u64]) -> Words
-    ensures outcome { λ r. ⌜ result r (now (widths .exit)) ≡ resultOf (targetWidths (now (target .entry)) (now (bits .entry))
+    ensures outcome { λ r. ⌜ told r (now (widths .exit) ∷ []) ≡ toldOf (targetWidths (now (target .entry)) (now (bits .entry))
         (now (widths .entry))) ⌝ }
 {
-    let a = widths::target_widths(target, bits, widths);
-    answers::words_of(a)
+    told::target_widths(target, bits, widths)
 }
 
 #[no_mangle]
 pub extern "C" fn gilfrunt_roots(widths: &[u64], roots: &[u64]) -> Words
     ensures answer { λ r. ⌜ r ≡ wordsOf (rootsAnswer (now (widths .entry)) (now (roots .entry))) ⌝ }
 {
-    let a = widths::roots(widths, roots);
-    answers::words_of(a)
+    told::roots(widths, roots)
 }
 
 #[no_mangle]
@@ -51,11 +51,10 @@ pub extern "C" fn gilfrunt_values(
     widths: &mut [u64],
     numbers: &mut [u64],
 ) -> Words
-    ensures outcome { λ r. ⌜ results r (now (widths .exit)) (now (numbers .exit)) ≡ resultsOf (values (now (target .entry)) (now (bits .entry))
+    ensures outcome { λ r. ⌜ told r (now (widths .exit) ∷ now (numbers .exit) ∷ []) ≡ toldOf (values (now (target .entry)) (now (bits .entry))
         (now (given .entry)) (now (widths .entry)) (now (numbers .entry))) ⌝ }
 {
-    let a = values::values(target, bits, given, widths, numbers);
-    answers::words_of(a)
+    told::values(target, bits, given, widths, numbers)
 }
 
 #[no_mangle]
@@ -108,8 +107,7 @@ pub extern "C" fn gilfrunt_check(
 pub extern "C" fn gilfrunt_section_answer(book: &[u8], number: u64) -> Words
     ensures answer { λ r. ⌜ r ≡ wordsOf (sectionAnswer (now (book .entry)) number) ⌝ }
 {
-    let a = book::section_answer(book, number);
-    answers::words_of(a)
+    told::section_answer(book, number)
 }
 
 // A reference cannot be returned to C, so the section comes as its place; place-is in the crate book says that it is the same stretch.

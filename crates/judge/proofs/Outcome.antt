@@ -1,23 +1,22 @@
 -- The outcome of a book's verdict, refusal by refusal. Assumes nothing.
-use Prim.Native.Nat.{ℕ, _+_, _-_, _<_, _≤_}
+use Prim.Native.Nat.{ℕ, _+_, _-_, _≤_}
 use mathlib.Core.Path.{_≡_, refl, sym, ap, _∙_}
 use mathlib.Core.Bool.{Bool, true, false, cond}
 use mathlib.Core.List.{List, _++_}
-use borrow.Author.Tests.{ltb-false, lt-ltb, le-ltb}
+use borrow.Author.Tests.{ltb-false}
 use lib.Dec.{eqb, ltb}
-use lib.ListN.{length, replicate, take}
-use lib.Seq.{take-at}
+use lib.ListN.{length, replicate}
 use Rattle.answers.specs.declared.Answer.{Answer}
 use Rattle.answers.specs.declared.Answer.the-variants.{Accepted, WorkShort, BookShape}
 use Rattle.answers.specs.Answer.{isAccepted, keeps, lent, andThen}
 use Rattle.lists.proofs.Choice.{no-way}
-use Rattle.lowering.specs.Lowering.{Lowering, lowering, sourceRows}
+use Rattle.lowering.specs.Lowering.{sourceRows}
 use Rattle.lowering.specs.Check.{widthsOfSource, widthsOfTarget, classes, offsets, refuse, firstRefusal, countAnswers, checkAnswer, Outcome, outcome, check}
 use Rattle.checker.proofs.Keeps.{keeps-count}
 use Rattle.checker.proofs.Outcome.{keeps-rest}
-use Rattle.book.specs.Book.{sections, contents, dueAt, firstBad, body, bookAnswer}
-use Rattle.book.specs.Words.{listOf}
-use Rattle.judge.specs.Judge.{held, bookWords, judgeAnswer, Judged, judged, judge}
+use Rattle.book.specs.Book.{sections, contents, dueAt, firstBad, bookAnswer}
+use Rattle.loaded.specs.Held.{held, bookWords}
+use Rattle.judge.specs.Judge.{judgeAnswer, Judged, judged, judge}
 
 -- 20 is not among the refusals that write nothing
 keeps-book : (b : List ℕ) → keeps (bookAnswer b) ≡ false
@@ -99,7 +98,7 @@ module _ (b ws0 ws1 cls ent words : List ℕ) where
         whole-checked : whole ≡ a
         whole-checked = let p = accepts-both counts short r in rw (g, p .0, p .1) (sym is-checked)
 
-        pub words-done : (x4 : List ℕ) → lent a words (bookWords b) ≡ x4 → judged a y0 y1 y2 y3 x4 ≡ judge b ws0 ws1 cls ent words
+        words-done : (x4 : List ℕ) → lent a words (bookWords b) ≡ x4 → judged a y0 y1 y2 y3 x4 ≡ judge b ws0 ws1 cls ent words
         words-done x4 l =
             settle a y0 y1 y2 y3 x4 whole-checked
             (ap (λ (z : Answer). lent z ws0 (widthsOfSource (held b))) is-checked ∙ sym (ap (λ (z : Outcome). z .source-widths) o))
@@ -107,14 +106,13 @@ module _ (b ws0 ws1 cls ent words : List ℕ) where
             (ap (λ (z : Answer). lent z cls (classes (held b) (sourceRows (held b)))) is-checked ∙ sym (ap (λ (z : Outcome). z .class-list) o))
             (ap (λ (z : Answer). lent z ent (offsets (held b))) is-checked ∙ sym (ap (λ (z : Outcome). z .entry-list) o)) l
 
-        pub check-refused : isAccepted a ≡ false → judged a y0 y1 y2 y3 (replicate (length words) 0) ≡ judge b ws0 ws1 cls ent words
-        check-refused n =
+        -- the words stay where Check accepts, and are zeroed where it refuses
+        pub check-done : (x4 : List ℕ)
+            → x4 ≡ cond (isAccepted a) (bookWords b ++ replicate (length words - length (bookWords b)) 0) (replicate (length words) 0)
+            → judged a y0 y1 y2 y3 x4 ≡ judge b ws0 ws1 cls ent words
+        check-done x4 e =
             let k : keeps a ≡ false = rw is-checked (keeps-rest (held b) ws0 ws1 cls ent (accepts-both counts short r .0)) in
-            words-done _ (rw (n, k))
-
-        pub check-accepted : isAccepted a ≡ true
-            → judged a y0 y1 y2 y3 (bookWords b ++ replicate (length words - length (bookWords b)) 0) ≡ judge b ws0 ws1 cls ent words
-        check-accepted n = words-done _ (rw n)
+            words-done x4 (rw k (sym e))
 
   -- room for the words
   pub words-fit : isAccepted room ≡ true → length (bookWords b) ≤ length words
@@ -129,35 +127,7 @@ pub by-lists : (a : Answer) (x0 x1 x2 x3 x4 y0 y1 y2 y3 y4 : List ℕ) (z : Judg
     → judged a y0 y1 y2 y3 y4 ≡ z → judged a x0 x1 x2 x3 x4 ≡ z
 by-lists a x0 x1 x2 x3 x4 y0 y1 y2 y3 y4 z e f g h l k = rw (e, f, g, h, l) k
 
--- the words stand in front, zeros after them
-pub words-cleared : (w rest ws after : List ℕ) (n k : ℕ) → ws ≡ w ++ rest → n ≡ length w → length ws ≡ k → after ≡ take n ws ++ replicate (length ws - n) 0
-    → after ≡ w ++ replicate (k - length w) 0
-words-cleared w rest ws after n k e f l g = let t : take n ws ≡ w = rw (e, f) (take-at w rest (length w) refl) in g ∙ rw (t, l, f)
-
--- the answer to the counts and the room for the words
-module _ (b : List ℕ) (w0 w1 c e words : ℕ) (a : Answer) (q : a ≡ firstRefusal (countAnswers (held b .source) (held b .target) w0 w1 c e)) where
-  abbrev answered : Answer
-  answered = andThen (firstRefusal (countAnswers (held b .source) (held b .target) w0 w1 c e)) (refuse (ltb words (length (bookWords b))) (WorkShort 5))
-
-  pub counts-refused : isAccepted a ≡ false → a ≡ answered
-  counts-refused n = let m : isAccepted (firstRefusal (countAnswers (held b .source) (held b .target) w0 w1 c e)) ≡ false = rw q at n in rw m q
-
-  module _ (n : isAccepted a ≡ true) (k : ℕ) (l : k ≡ length (bookWords b)) where
-    counted : isAccepted (firstRefusal (countAnswers (held b .source) (held b .target) w0 w1 c e)) ≡ true
-    counted = rw q at n
-
-    pub words-short : words < k → WorkShort 5 ≡ answered
-    words-short h = rw (counted, sym l, lt-ltb _ _ h)
-
-    pub room-good : k ≤ words → Accepted ≡ answered
-    room-good h = rw (counted, sym l, le-ltb _ _ h)
-
--- Check on eleven lists that are a book's
-pub held-by : (b x0 x1 x2 x3 x4 x5 x6 x7 x8 x9 x10 ws0 ws1 cls ent : List ℕ) (o : Outcome) → x0 ≡ listOf b 0 → x1 ≡ body b 1 → x2 ≡ listOf b 2 → x3 ≡ listOf b 3
-    → x4 ≡ listOf b 4 → x5 ≡ listOf b 5 → x6 ≡ listOf b 6 → x7 ≡ listOf b 7 → x8 ≡ listOf b 8 → x9 ≡ body b 9 → x10 ≡ listOf b 10
-    → o ≡ check (lowering x0 x1 x2 x3 x4 x5 x6 x7 x8 x9 x10) ws0 ws1 cls ent → o ≡ check (held b) ws0 ws1 cls ent
-held-by b x0 x1 x2 x3 x4 x5 x6 x7 x8 x9 x10 ws0 ws1 cls ent o e0 e1 e2 e3 e4 e5 e6 e7 e8 e9 e10 q =
-    q ∙ ap (λ (L : Lowering). check L ws0 ws1 cls ent) same
-  where
-    same : lowering x0 x1 x2 x3 x4 x5 x6 x7 x8 x9 x10 ≡ held b
-    same = rw (e0, e1, e2, e3, e4, e5, e6, e7, e8, e9, e10)
+-- the words by the test as the code made it, in a list as long as it was lent
+pub words-left : (b x : List ℕ) (t u : Bool) (m n : ℕ) → x ≡ cond t (bookWords b ++ replicate (m - length (bookWords b)) 0) (replicate m 0) → t ≡ u → m ≡ n
+    → x ≡ cond u (bookWords b ++ replicate (n - length (bookWords b)) 0) (replicate n 0)
+words-left b x t u m n e f g = e ∙ rw (f, g)

@@ -14,10 +14,12 @@ use Rattle.lowering.specs.Lowering.{Lowering, sourceRows, targetRows}
 use Rattle.lowering.specs.Check.{sourceIll, targetIll, refuse, firstRefusal, countAnswers, graphAnswers, matchAnswers, checkAnswer}
 use Rattle.lowering.proofs.Refusals.{refusal-append}
 use Rattle.book.specs.Book.{sections, contents, dueAt, bookAnswer}
-use Rattle.book.specs.Words.{Good, listOf, loaded}
+use Rattle.bodies.specs.Words.{listOf, loaded}
+use Rattle.book.specs.Good.{Good}
 use Rattle.book.proofs.Shape.{good-book}
-use Rattle.book.proofs.Words.{loaded-bound, loaded-below}
-use Rattle.judge.specs.Judge.{held, bookWords, judgeAnswer, longest, verdict}
+use Rattle.bodies.proofs.Words.{loaded-bound, loaded-below}
+use Rattle.loaded.specs.Held.{held, bookWords}
+use Rattle.judge.specs.Judge.{judgeAnswer, longest, verdict}
 
 module _ (L : Lowering) (w0 w1 c e : ℕ) where
   abbrev counts : Answer

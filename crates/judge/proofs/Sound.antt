@@ -17,9 +17,10 @@ use Rattle.lowering.specs.Check.{refuse, firstRefusal, countAnswers, checkAnswe
 use Rattle.soundness.specs.Sound.{Accepts, Sound}
 use Rattle.soundness.proofs.Theorem.{sound}
 use Rattle.book.specs.Book.{bookAnswer}
-use Rattle.book.specs.Words.{listOf}
-use Rattle.book.proofs.Words.{list-short}
-use Rattle.judge.specs.Judge.{held, bookWords, longest, verdict, judge}
+use Rattle.bodies.specs.Words.{listOf}
+use Rattle.bodies.proofs.Words.{list-short}
+use Rattle.loaded.specs.Held.{held, bookWords}
+use Rattle.judge.specs.Judge.{longest, verdict, judge}
 use Rattle.judge.proofs.Outcome.{accepts-both}
 
 -- Check accepts in lists of so many words

@@ -1,4 +1,4 @@
--- Check on the lists that a book holds (01, 'Section of a book'). Assumes nothing.
+-- The verdict on a book (01, 'Section of a book'). Assumes nothing.
 use Prim.Native.Nat.{ℕ}
 use mathlib.Core.Bool.{cond}
 use mathlib.Core.List.{List}
@@ -7,20 +7,10 @@ use lib.ListN.{length}
 use Rattle.answers.specs.declared.Answer.{Answer}
 use Rattle.answers.specs.declared.Answer.the-variants.{WorkShort, BookShape}
 use Rattle.answers.specs.Answer.{andThen, lent}
-use Rattle.book.specs.Book.{sections, body, bookAnswer}
-use Rattle.book.specs.Words.{listOf, loaded}
-use Rattle.lowering.specs.Lowering.{Lowering, lowering, sourceRows, targetRows}
+use Rattle.book.specs.Book.{bookAnswer}
+use Rattle.loaded.specs.Held.{held, bookWords}
+use Rattle.lowering.specs.Lowering.{sourceRows, targetRows}
 use Rattle.lowering.specs.Check.{widthsOfSource, widthsOfTarget, classes, offsets, refuse, firstRefusal, countAnswers, checkAnswer}
-
--- "the bodies in the order of `check_sliver_lowering`'s arguments"
-abbrev pub held : List ℕ → Lowering
-held b =
-    let words = listOf b in
-    lowering (words 0) (body b 1) (words 2) (words 3) (words 4) (words 5) (words 6) (words 7) (words 8) (body b 9) (words 10)
-
--- all words that a book holds
-abbrev pub bookWords : List ℕ → List ℕ
-bookWords b = loaded b sections
 
 -- 20; then as Check on the book's lists, with room for some words in its four lists. A fifth list takes the book's words: "one too short is 18 by its
 -- place in the order lent", with Check's own 15 and 18 before it

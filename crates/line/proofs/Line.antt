@@ -51,6 +51,12 @@ pub number-put : (out out₀ text digits : List ℕ) (end at v : ℕ) → end < 
 number-put out out₀ text digits end at v h e d = rw (add-one end) (take-suc-set out end v h ∙ rw (e, d, append-assoc))
 
 -- the parts of a refusal's line, each front put behind the one before it
-pub refused-line : (w : Words) (f0 f1 f2 f3 : List ℕ) → (w .number ≡ 0 → ⊥) → f0 ≡ refused ++ space → f1 ≡ f0 ++ (decimal (w .number) ++ space)
+parts : (w : Words) (f0 f1 f2 f3 : List ℕ) → (w .number ≡ 0 → ⊥) → f0 ≡ refused ++ space → f1 ≡ f0 ++ (decimal (w .number) ++ space)
     → f2 ≡ f1 ++ (decimal (w .place) ++ space) → f3 ≡ f2 ++ (decimal (w .detail) ++ newline) → f3 ≡ lineOf w
-refused-line w f0 f1 f2 f3 n e0 e1 e2 e3 = rw (ne-eqb _ _ n) (e3 ∙ rw (e2, e1, e0) (simp append-assoc))
+parts w f0 f1 f2 f3 n e0 e1 e2 e3 = rw (ne-eqb _ _ n) (e3 ∙ rw (e2, e1, e0) (simp append-assoc))
+
+-- with the numbers that were put as place and detail
+pub refused-line : (w : Words) (place detail : ℕ) (f0 f1 f2 f3 : List ℕ) → (w .number ≡ 0 → ⊥) → f0 ≡ refused ++ space → f1 ≡ f0 ++ (decimal (w .number) ++ space)
+    → f2 ≡ f1 ++ (decimal place ++ space) → f3 ≡ f2 ++ (decimal detail ++ newline) → place ≡ w .place → detail ≡ w .detail → f3 ≡ lineOf w
+refused-line w place detail f0 f1 f2 f3 n e0 e1 e2 e3 p d =
+    parts w f0 f1 f2 f3 n e0 e1 (e2 ∙ ap (λ (k : ℕ). f1 ++ (decimal k ++ space)) p) (e3 ∙ ap (λ (k : ℕ). f2 ++ (decimal k ++ newline)) d)

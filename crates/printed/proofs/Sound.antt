@@ -8,7 +8,7 @@ use Rattle.answers.specs.Answer.{wordsOf, isAccepted}
 use Rattle.line.specs.Line.{accepted, newline, lineOf}
 use Rattle.line.proofs.Accepted.{accepted-alone}
 use Rattle.soundness.specs.Sound.{Sound}
-use Rattle.judge.specs.Judge.{held}
+use Rattle.loaded.specs.Held.{held}
 
 pub line-sound : (b line : List ℕ) (r : Answer) → line ≡ lineOf (wordsOf r) → (isAccepted r ≡ true → Sound (held b)) → line ≡ accepted ++ newline
     → Sound (held b)

@@ -4,7 +4,8 @@ ghost use mathlib.Core.Path.{_≡_};
 ghost use mathlib.Core.List.{_++_};
 ghost use lib.ListN.{length, take};
 ghost use Rattle.answers.specs.Answer.{wordsOf};
-ghost use Rattle.judge.specs.Judge.{held, verdict};
+ghost use Rattle.loaded.specs.Held.{held};
+ghost use Rattle.judge.specs.Judge.{verdict};
 ghost use Rattle.line.specs.Line.{accepted, newline, lineOf};
 ghost use Rattle.soundness.specs.Sound.{Sound};
 

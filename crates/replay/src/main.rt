@@ -5,7 +5,8 @@ ghost use mathlib.Core.Bool.{true};
 ghost use Prim.Native.Nat.{_+_, _≤_, _<_};
 ghost use lib.ListN.{length};
 ghost use Rattle.text.specs.Line.{wordsIn};
-ghost use Rattle.agreement.specs.Agrees.{room, Agrees};
+ghost use Rattle.cases.specs.Case.{room};
+ghost use Rattle.agreement.specs.Agrees.{Agrees};
 use libc::STDIN_FILENO;
 use libc::STDOUT_FILENO;
 
@@ -26,7 +27,7 @@ fn print_number(label: &[u8], n: usize) {
 fn line_agrees(line: &[u8]) -> bool
     ensures agreed { λ r. ⌜ (r ≡ true → Agrees (wordsIn room (now (line .entry)))) ⌝ }
 {
-    let mut words = [0u64; agreement::ROOM];
+    let mut words = [0u64; cases::ROOM];
     let n = text::read_line(line, &mut words);
     agreement::agrees(&words[..n])
 }

@@ -23,7 +23,7 @@ use Rattle.encoding.proofs.Encoding.{clean}
 use Rattle.value.proofs.Tagged.{core-rows, node-var}
 use Rattle.wf.specs.Widths.{illRow, widths, rowWidth}
 use Rattle.wf.proofs.Promise.{well-formed}
-use Rattle.widths.specs.Widths.{rowsAnswer}
+use Rattle.refusals.specs.Rows.{rowsAnswer}
 use Rattle.values.specs.Values.{rowWide, wideRow, wordBad, badWord, givenAnswer}
 
 -- an accepted answer failed each of its tests

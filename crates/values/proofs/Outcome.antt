@@ -2,7 +2,7 @@
 use Prim.Native.Nat.{ℕ, _-_, _<_, _≤_}
 use mathlib.Core.Path.{_≡_, refl, ap, ap₂, _∙_}
 use mathlib.Core.Bool.{Bool, true, false, cond}
-use mathlib.Core.List.{List, [], _++_}
+use mathlib.Core.List.{List, [], _∷_, _++_}
 use borrow.Author.Tests.{lt-ltb, le-ltb}
 use lib.Dec.{eqb, ltb}
 use lib.ListN.{length, replicate}
@@ -10,6 +10,7 @@ use Rattle.value.specs.Graph.{numbersTo}
 use Rattle.answers.specs.declared.Answer.{Answer}
 use Rattle.answers.specs.declared.Answer.the-variants.{Accepted, Core, RowCount, BadRow, BadBit, WorkShort, TooWide, ValueCount, ValueRange}
 use Rattle.answers.specs.Answer.{lent, isAccepted}
+use Rattle.answers.specs.Result.{result}
 use Rattle.evaluate.proofs.Rows.{numbers-length}
 use Rattle.lists.proofs.Choice.{no-way}
 use Rattle.lists.proofs.Build.{build-length}
@@ -17,9 +18,9 @@ use Rattle.rows.specs.declared.Graph.the-variants.{Target}
 use Rattle.rows.specs.Row.{rowCount, ragged}
 use Rattle.encoding.specs.Encoding.{badRow, badBit}
 use Rattle.wf.specs.Widths.{illRow, widths, rowWidth}
-use Rattle.widths.specs.Widths.{rowsAnswer}
+use Rattle.refusals.specs.Rows.{rowsAnswer}
 use Rattle.values.proofs.Given.{given-tests}
-use Rattle.values.specs.Values.{wideRow, badWord, givenAnswer, valuesAnswer, out, values}
+use Rattle.values.specs.Values.{wideRow, badWord, givenAnswer, valuesAnswer, values}
 
 -- a refusal for the rows, and one for the words given, zero a list
 pub rows-zero : (p q r : Bool) (a b d row : ℕ) (old new : List ℕ)
@@ -47,27 +48,27 @@ module _ (g bits given ws vs : List ℕ) where
   -- the outcome is settled by the answer
   settled : (a : Answer) → valuesAnswer g bits given (length ws) (length vs) ≡ a
       → values g bits given ws vs
-      ≡ out a (lent a ws (widths Target (length bits) [] g)) (lent a vs (numbersTo g bits given (rowCount Target g)))
-  settled a e = ap (λ (x : Answer). out x (lent x ws (widths Target (length bits) [] g)) (lent x vs (numbersTo g bits given (rowCount Target g)))) e
+      ≡ result a ((lent a ws (widths Target (length bits) [] g)) ∷ (lent a vs (numbersTo g bits given (rowCount Target g))) ∷ [])
+  settled a e = ap (λ (x : Answer). result x ((lent x ws (widths Target (length bits) [] g)) ∷ (lent x vs (numbersTo g bits given (rowCount Target g))) ∷ [])) e
 
-  pub values-15 : ragged Target g ≡ true → values g bits given ws vs ≡ out (RowCount 2) ws vs
+  pub values-15 : ragged Target g ≡ true → values g bits given ws vs ≡ result (RowCount 2) (ws ∷ vs ∷ [])
   values-15 r = settled (RowCount 2) (rw r)
 
   module _ (whole : ragged Target g ≡ false) where
-    pub values-18 : length ws < rowCount Target g → values g bits given ws vs ≡ out (WorkShort 1) ws vs
+    pub values-18 : length ws < rowCount Target g → values g bits given ws vs ≡ result (WorkShort 1) (ws ∷ vs ∷ [])
     values-18 h = settled (WorkShort 1) (rw (whole, lt-ltb _ _ h))
 
     module _ (room : rowCount Target g ≤ length ws) where
-      pub values-18-too : length vs < rowCount Target g → values g bits given ws vs ≡ out (WorkShort 2) ws vs
+      pub values-18-too : length vs < rowCount Target g → values g bits given ws vs ≡ result (WorkShort 2) (ws ∷ vs ∷ [])
       values-18-too h = settled (WorkShort 2) (rw (whole, le-ltb _ _ room, lt-ltb _ _ h))
 
       module _ (room-too : rowCount Target g ≤ length vs) where
         pub values-rows : isAccepted (rowsAnswer Target g bits (illRow Target (length bits) [] g)) ≡ false
             → values g bits given ws vs
-            ≡ out (rowsAnswer Target g bits (illRow Target (length bits) [] g)) (replicate (length ws) 0) (replicate (length vs) 0)
+            ≡ result (rowsAnswer Target g bits (illRow Target (length bits) [] g)) (replicate (length ws) 0 ∷ replicate (length vs) 0 ∷ [])
         values-rows e =
             settled (rowsAnswer Target g bits (illRow Target (length bits) [] g)) (rw (whole, le-ltb _ _ room, le-ltb _ _ room-too, e))
-            ∙ ap₂ (out (rowsAnswer Target g bits (illRow Target (length bits) [] g))) (zero ws (widths Target (length bits) [] g)) (zero vs (numbersTo g bits given (rowCount Target g)))
+            ∙ ap₂ (λ (k l : List ℕ). result (rowsAnswer Target g bits (illRow Target (length bits) [] g)) (k ∷ l ∷ [])) (zero ws (widths Target (length bits) [] g)) (zero vs (numbersTo g bits given (rowCount Target g)))
           where
             zero : (old new : List ℕ) → lent (rowsAnswer Target g bits (illRow Target (length bits) [] g)) old new ≡ replicate (length old) 0
             zero old new =
@@ -80,19 +81,19 @@ module _ (g bits given ws vs : List ℕ) where
 
           pub values-given : isAccepted (givenAnswer g (widths Target (length bits) [] g) given) ≡ false
               → values g bits given ws vs
-              ≡ out (givenAnswer g (widths Target (length bits) [] g) given) (replicate (length ws) 0) (replicate (length vs) 0)
+              ≡ result (givenAnswer g (widths Target (length bits) [] g) given) (replicate (length ws) 0 ∷ replicate (length vs) 0 ∷ [])
           values-given e =
               settled (givenAnswer g (widths Target (length bits) [] g) given) answer-is
-              ∙ ap₂ (out (givenAnswer g (widths Target (length bits) [] g) given)) (zero ws (widths Target (length bits) [] g)) (zero vs (numbersTo g bits given (rowCount Target g)))
+              ∙ ap₂ (λ (k l : List ℕ). result (givenAnswer g (widths Target (length bits) [] g) given) (k ∷ l ∷ [])) (zero ws (widths Target (length bits) [] g)) (zero vs (numbersTo g bits given (rowCount Target g)))
             where
               zero : (old new : List ℕ) → lent (givenAnswer g (widths Target (length bits) [] g) given) old new ≡ replicate (length old) 0
               zero old new = given-zero (ltb (wideRow (widths Target (length bits) [] g) (rowCount Target g)) (rowCount Target g)) (eqb (length given) (rowCount Target g)) (ltb (badWord g given) (rowCount Target g)) (wideRow (widths Target (length bits) [] g) (rowCount Target g)) (badWord g given) (rowCount Target g) (length given) old new e
 
           pub values-accepted : isAccepted (givenAnswer g (widths Target (length bits) [] g) given) ≡ true
               → values g bits given ws vs
-              ≡ out Accepted (widths Target (length bits) [] g ++ replicate (length ws - rowCount Target g) 0) (numbersTo g bits given (rowCount Target g) ++ replicate (length vs - rowCount Target g) 0)
+              ≡ result Accepted ((widths Target (length bits) [] g ++ replicate (length ws - rowCount Target g) 0) ∷ (numbersTo g bits given (rowCount Target g) ++ replicate (length vs - rowCount Target g) 0) ∷ [])
           values-accepted e =
               settled Accepted (answer-is ∙ given-yes (ltb (wideRow (widths Target (length bits) [] g) (rowCount Target g)) (rowCount Target g)) (eqb (length given) (rowCount Target g)) (ltb (badWord g given) (rowCount Target g)) (wideRow (widths Target (length bits) [] g) (rowCount Target g)) (badWord g given) (rowCount Target g) (length given) e)
-              ∙ ap₂ (out Accepted)
+              ∙ ap₂ (λ (k l : List ℕ). result Accepted (k ∷ l ∷ []))
               (ap (λ (n : ℕ). widths Target (length bits) [] g ++ replicate (length ws - n) 0) (build-length (rowWidth Target (length bits) [] g) (rowCount Target g)))
               (ap (λ (n : ℕ). numbersTo g bits given (rowCount Target g) ++ replicate (length vs - n) 0) (numbers-length g bits given (rowCount Target g)))

@@ -2,21 +2,23 @@
 use Prim.Native.Nat.{ℕ, _-_, _≤_}
 use mathlib.Core.Path.{_≡_, ap, _∙_}
 use mathlib.Core.Bool.{Bool, true, false, cond}
-use mathlib.Core.List.{List, [], _++_}
+use mathlib.Core.List.{List, [], _∷_, _++_}
 use borrow.Author.Tests.{le-ltb}
 use lib.Dec.{ltb}
-use lib.ListN.{length, replicate, take, drop}
+use lib.ListN.{length, getD, replicate, take, drop}
 use Rattle.value.specs.Graph.{numbersTo}
 use Rattle.answers.specs.declared.Answer.{Answer}
 use Rattle.answers.specs.declared.Answer.the-variants.{Accepted, Core, BadRow, BadBit}
 use Rattle.answers.specs.Answer.{lent, isAccepted}
+use Rattle.answers.specs.Result.{Result, result}
 use Rattle.evaluate.proofs.Rows.{numbers-front}
 use Rattle.lists.proofs.Build.{build-length, build-front}
 use Rattle.rows.specs.declared.Graph.the-variants.{Target}
 use Rattle.rows.specs.Row.{rowCount, ragged}
 use Rattle.encoding.specs.Encoding.{badRow, badBit}
 use Rattle.wf.specs.Widths.{illRow, widths, rowWidth}
-use Rattle.widths.specs.Widths.{Out, out, rowsAnswer, targetWidths}
+use Rattle.refusals.specs.Rows.{rowsAnswer}
+use Rattle.widths.specs.Widths.{targetWidths}
 use Rattle.values.proofs.Given.{rows-tests}
 use Rattle.values.proofs.Outcome.{rows-zero}
 
@@ -25,13 +27,13 @@ rows-yes : (p q r : Bool) (a b d row : ℕ) → isAccepted (cond p (BadRow a d) 
 rows-yes p q r a b d row e = let (x, y, z) = rows-tests p q r a b d row e in rw (x, y, z)
 
 -- the widths operation on a whole target with room: its answer and its list
-module _ (g bits ws : List ℕ) (a : Answer) (l : List ℕ) (done : out a l ≡ targetWidths g bits ws) (whole : ragged Target g ≡ false)
+module _ (g bits ws : List ℕ) (a : Answer) (l : List ℕ) (done : result a (l ∷ []) ≡ targetWidths g bits ws) (whole : ragged Target g ≡ false)
     (room : rowCount Target g ≤ length ws) where
   pub widths-answer : a ≡ rowsAnswer Target g bits (illRow Target (length bits) [] g)
-  widths-answer = ap (λ (o : Out). o .answer) done ∙ rw (whole, le-ltb _ _ room)
+  widths-answer = ap (λ (r : Result). r .answer) done ∙ rw (whole, le-ltb _ _ room)
 
   widths-list : l ≡ lent (rowsAnswer Target g bits (illRow Target (length bits) [] g)) ws (widths Target (length bits) [] g)
-  widths-list = ap (λ (o : Out). o .list) done ∙ rw (whole, le-ltb _ _ room)
+  widths-list = ap (λ (r : Result). getD (r .lists) 0 []) done ∙ rw (whole, le-ltb _ _ room)
 
   pub widths-refused : isAccepted (rowsAnswer Target g bits (illRow Target (length bits) [] g)) ≡ false → l ≡ replicate (length ws) 0
   widths-refused e =

@@ -2,19 +2,20 @@
 -- rows than Var are ignored". Assumes nothing.
 use Prim.Native.Nat.{ℕ, _^_}
 use mathlib.Core.Bool.{Bool, false, cond, not}
-use mathlib.Core.List.{List, []}
+use mathlib.Core.List.{List, [], _∷_}
 use lib.Dec.{eqb, ltb}
 use lib.ListN.{length, getD}
 use Rattle.answers.specs.declared.Answer.{Answer}
 use Rattle.answers.specs.declared.Answer.the-variants.{Accepted, RowCount, WorkShort, TooWide, ValueCount, ValueRange}
-use Rattle.answers.specs.Answer.{lent, andThen}
+use Rattle.answers.specs.Answer.{andThen}
+use Rattle.answers.specs.Result.{Result, leaves}
 use Rattle.lists.specs.First.{first}
 use Rattle.rows.specs.declared.Graph.the-variants.{Target}
 use Rattle.rows.specs.Row.{graphNumber, rowCount, ragged, rowAt}
 use Rattle.rows.specs.Tags.{tVar}
 use Rattle.value.specs.Graph.{numbersTo}
 use Rattle.wf.specs.Widths.{illRow, widths}
-use Rattle.widths.specs.Widths.{rowsAnswer}
+use Rattle.refusals.specs.Rows.{rowsAnswer}
 
 -- 21: "first row above 64"
 abbrev pub rowWide : List ℕ → ℕ → Bool
@@ -45,17 +46,8 @@ valuesAnswer g bits given room room-too =
     (cond (ltb room-too (rowCount Target g)) (WorkShort 2)
     (andThen (rowsAnswer Target g bits (illRow Target (length bits) [] g)) (givenAnswer g (widths Target (length bits) [] g) given))))
 
--- an answer and what stands in both lists afterwards
-pub record Out : Type 0 where
-  pub answer : Answer
-  pub widths : List ℕ
-  pub values : List ℕ
-
-abbrev pub out : Answer → List ℕ → List ℕ → Out
-out a ws vs = record { answer = a; widths = ws; values = vs }
-
 -- the whole outcome over the words of the target, its bits, the words given and the lists lent
-abbrev pub values : List ℕ → List ℕ → List ℕ → List ℕ → List ℕ → Out
+abbrev pub values : List ℕ → List ℕ → List ℕ → List ℕ → List ℕ → Result
 values g bits given ws vs =
     let a = valuesAnswer g bits given (length ws) (length vs) in
-    out a (lent a ws (widths Target (length bits) [] g)) (lent a vs (numbersTo g bits given (rowCount Target g)))
+    leaves a ((ws, widths Target (length bits) [] g) ∷ (vs, numbersTo g bits given (rowCount Target g)) ∷ [])

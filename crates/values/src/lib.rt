@@ -1,12 +1,14 @@
 // The operation Values of a target graph.
 ghost use mathlib.Core.Path.{_≡_};
+ghost use mathlib.Core.List.{[], _∷_};
+ghost use Rattle.answers.specs.Result.{result};
 ghost use mathlib.Core.Bool.{cond, not, false};
 ghost use Prim.Native.Nat.{_^_};
 ghost use lib.Dec.{eqb, ltb};
 ghost use lib.ListN.{length, getD};
 ghost use Rattle.rows.specs.declared.Graph.{Graph};
 ghost use Rattle.rows.specs.Row.{rowCount};
-ghost use Rattle.values.specs.Values.{wideRow, badWord, givenAnswer, out, values};
+ghost use Rattle.values.specs.Values.{wideRow, badWord, givenAnswer, values};
 use answers::Answer;
 use rows::Graph;
 
@@ -71,7 +73,7 @@ fn given_answer(g: &[u64], given: &[u64], ws: &[u64]) -> Answer
 
 // The numbers of a target's rows under the words given for its variables, with its widths, or the first refusal by 01's order.
 pub fn values(target: &[u64], bits: &[u8], given: &[u64], ws: &mut [u64], vs: &mut [u64]) -> Answer
-    ensures outcome { λ r. ⌜ out r (now (ws .exit)) (now (vs .exit)) ≡ values (now (target .entry)) (now (bits .entry)) (now (given .entry))
+    ensures outcome { λ r. ⌜ result r (now (ws .exit) ∷ now (vs .exit) ∷ []) ≡ values (now (target .entry)) (now (bits .entry)) (now (given .entry))
         (now (ws .entry)) (now (vs .entry)) ⌝ }
 {
     if rows::is_ragged(Graph::Target, target) {

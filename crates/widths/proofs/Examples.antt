@@ -6,7 +6,8 @@ use lib.ListN.{replicate}
 use Rattle.answers.specs.declared.Answer.the-variants.{Accepted, Ext, Core, RowCount, BadRow, BadBit, WorkShort, BadRoot}
 use Rattle.lists.specs.First.{first}
 use Rattle.lists.specs.Build.{build}
-use Rattle.widths.specs.Widths.{out, sourceWidths, targetWidths, rootsAnswer}
+use Rattle.answers.specs.Result.{result}
+use Rattle.widths.specs.Widths.{sourceWidths, targetWidths, rootsAnswer}
 
 -- rows of five and of four words
 abbrev s5 : ℕ → ℕ → ℕ → ℕ → ℕ → List ℕ → List ℕ
@@ -29,11 +30,11 @@ baseSource = s5 0 32 0 0 0 (s5 37 7 0 0 0 (s5 19 1 1 0 0 []))
 abbrev baseTarget : List ℕ
 baseTarget = t4 0 32 0 0 (t4 0 8 0 0 (t4 19 1 1 0 []))
 
-base-source : sourceWidths baseSource [] [] (junk 4) ≡ out Accepted (32 ∷ 8 ∷ 1 ∷ 0 ∷ [])
+base-source : sourceWidths baseSource [] [] (junk 4) ≡ result Accepted ((32 ∷ 8 ∷ 1 ∷ 0 ∷ []) ∷ [])
 unfolding first build
 base-source = refl
 
-base-target : targetWidths baseTarget [] (junk 3) ≡ out Accepted (32 ∷ 8 ∷ 1 ∷ [])
+base-target : targetWidths baseTarget [] (junk 3) ≡ result Accepted ((32 ∷ 8 ∷ 1 ∷ []) ∷ [])
 unfolding first build
 base-target = refl
 
@@ -43,71 +44,71 @@ base-roots = refl
 
 -- case 8
 case-8-source : sourceWidths (s5 0 32 0 0 0 (s5 0 32 0 0 0 (s5 37 7 0 0 0 (s5 37 7 1 0 0 [])))) [] [] (junk 4)
-    ≡ out Accepted (32 ∷ 32 ∷ 8 ∷ 8 ∷ [])
+    ≡ result Accepted ((32 ∷ 32 ∷ 8 ∷ 8 ∷ []) ∷ [])
 unfolding first build
 case-8-source = refl
 
 case-8-target : targetWidths (t4 0 32 0 0 (t4 0 32 0 0 (t4 0 8 0 0 (t4 0 8 0 0 (t4 19 0 1 0 (t4 29 4 0 0 (t4 19 2 3 0 (t4 31 5 6 0 [])))))))) [] (junk 8)
-    ≡ out Accepted (32 ∷ 32 ∷ 8 ∷ 8 ∷ 1 ∷ 1 ∷ 1 ∷ 1 ∷ [])
+    ≡ result Accepted ((32 ∷ 32 ∷ 8 ∷ 8 ∷ 1 ∷ 1 ∷ 1 ∷ 1 ∷ []) ∷ [])
 unfolding first build
 case-8-target = refl
 
 -- case 9: constant indices, 0 and 1 of 32 bits
 case-9-source : sourceWidths (s5 1 0 32 0 0 (s5 1 32 32 0 0 (s5 37 7 0 0 0 (s5 37 7 1 0 0 [])))) (replicate 32 0 ++ 1 ∷ replicate 31 0) [] (junk 4)
-    ≡ out Accepted (32 ∷ 32 ∷ 8 ∷ 8 ∷ [])
+    ≡ result Accepted ((32 ∷ 32 ∷ 8 ∷ 8 ∷ []) ∷ [])
 unfolding first build
 case-9-source = refl
 
 -- case 10: a pair (0,2), and its lowering
 case-10-source : sourceWidths (s5 0 32 0 0 0 (s5 0 32 0 0 0 (s5 0 8 0 0 0 (s5 37 7 1 0 1 [])))) [] (0 ∷ 2 ∷ []) (junk 4)
-    ≡ out Accepted (32 ∷ 32 ∷ 8 ∷ 8 ∷ [])
+    ≡ result Accepted ((32 ∷ 32 ∷ 8 ∷ 8 ∷ []) ∷ [])
 unfolding first build
 case-10-source = refl
 
 case-10-target : targetWidths (t4 0 32 0 0 (t4 0 32 0 0 (t4 0 8 0 0 (t4 0 8 0 0 (t4 19 0 1 0 (t4 18 4 2 3 [])))))) [] (junk 6)
-    ≡ out Accepted (32 ∷ 32 ∷ 8 ∷ 8 ∷ 1 ∷ 8 ∷ [])
+    ≡ result Accepted ((32 ∷ 32 ∷ 8 ∷ 8 ∷ 1 ∷ 8 ∷ []) ∷ [])
 unfolding first build
 case-10-target = refl
 
 -- case 11: calls without arguments; "with count 0 any start passes"
-case-11-source : sourceWidths (s5 38 3 8 0 0 (s5 38 3 8 max 0 [])) [] [] (junk 2) ≡ out Accepted (8 ∷ 8 ∷ [])
+case-11-source : sourceWidths (s5 38 3 8 0 0 (s5 38 3 8 max 0 [])) [] [] (junk 2) ≡ result Accepted ((8 ∷ 8 ∷ []) ∷ [])
 unfolding first build
 case-11-source = refl
 
 -- 15 and 18 write nothing
-ragged-source : sourceWidths (0 ∷ 32 ∷ []) [] [] (junk 2) ≡ out (RowCount 1) (9 ∷ 9 ∷ [])
+ragged-source : sourceWidths (0 ∷ 32 ∷ []) [] [] (junk 2) ≡ result (RowCount 1) ((9 ∷ 9 ∷ []) ∷ [])
 ragged-source = refl
 
-short-target : targetWidths baseTarget [] (junk 2) ≡ out (WorkShort 2) (9 ∷ 9 ∷ [])
+short-target : targetWidths baseTarget [] (junk 2) ≡ result (WorkShort 2) ((9 ∷ 9 ∷ []) ∷ [])
 short-target = refl
 
 -- 16 goes before 17, and 17 before 2; each zeroes the list
-bad-row : targetWidths (t4 0 0 0 0 (t4 37 0 0 0 [])) (2 ∷ []) (junk 3) ≡ out (BadRow 1 2) (0 ∷ 0 ∷ 0 ∷ [])
+bad-row : targetWidths (t4 0 0 0 0 (t4 37 0 0 0 [])) (2 ∷ []) (junk 3) ≡ result (BadRow 1 2) ((0 ∷ 0 ∷ 0 ∷ []) ∷ [])
 unfolding first
 bad-row = refl
 
-unused-field : sourceWidths (s5 0 32 0 0 1 []) [] [] (junk 1) ≡ out (BadRow 0 1) (0 ∷ [])
+unused-field : sourceWidths (s5 0 32 0 0 1 []) [] [] (junk 1) ≡ result (BadRow 0 1) ((0 ∷ []) ∷ [])
 unfolding first
 unused-field = refl
 
-bad-bit : targetWidths (t4 0 0 0 0 []) (1 ∷ 2 ∷ []) (junk 1) ≡ out (BadBit 1 2) (0 ∷ [])
+bad-bit : targetWidths (t4 0 0 0 0 []) (1 ∷ 2 ∷ []) (junk 1) ≡ result (BadBit 1 2) ((0 ∷ []) ∷ [])
 unfolding first
 bad-bit = refl
 
 -- sums and ranges near 2^64-1 end in a refusal
-wide-sum : targetWidths (t4 0 max 0 0 (t4 16 0 1 0 [])) [] (junk 2) ≡ out (Core 1) (0 ∷ 0 ∷ [])
+wide-sum : targetWidths (t4 0 max 0 0 (t4 16 0 1 0 [])) [] (junk 2) ≡ result (Core 1) ((0 ∷ 0 ∷ []) ∷ [])
 unfolding first build
 wide-sum = refl
 
-far-bits : targetWidths (t4 1 max 1 0 []) (0 ∷ []) (junk 1) ≡ out (Core 0) (0 ∷ [])
+far-bits : targetWidths (t4 1 max 1 0 []) (0 ∷ []) (junk 1) ≡ result (Core 0) ((0 ∷ []) ∷ [])
 unfolding first build
 far-bits = refl
 
-long-chain : sourceWidths (s5 0 32 0 0 0 (s5 37 7 0 1 max [])) [] (0 ∷ 0 ∷ 0 ∷ []) (junk 2) ≡ out (Ext 1) (0 ∷ 0 ∷ [])
+long-chain : sourceWidths (s5 0 32 0 0 0 (s5 37 7 0 1 max [])) [] (0 ∷ 0 ∷ 0 ∷ []) (junk 2) ≡ result (Ext 1) ((0 ∷ 0 ∷ []) ∷ [])
 unfolding first build
 long-chain = refl
 
-long-call : sourceWidths (s5 38 3 8 max 2 []) [] (0 ∷ []) (junk 1) ≡ out (Ext 0) (0 ∷ [])
+long-call : sourceWidths (s5 38 3 8 max 2 []) [] (0 ∷ []) (junk 1) ≡ result (Ext 0) ((0 ∷ []) ∷ [])
 unfolding first build
 long-call = refl
 

@@ -2,7 +2,7 @@
 use Prim.Native.Nat.{ℕ, _-_, _<_, _≤_}
 use mathlib.Core.Path.{_≡_, refl, ap}
 use mathlib.Core.Bool.{Bool, true, false, cond}
-use mathlib.Core.List.{List, _++_}
+use mathlib.Core.List.{List, [], _∷_, _++_}
 use native.Mathlib.Decide.{decLt}
 use native.Mathlib.Omega.{arith}
 use borrow.Author.Tests.{lt-ltb, le-ltb}
@@ -10,6 +10,7 @@ use lib.Dec.{ltb}
 use lib.ListN.{length, replicate, take, drop}
 use Rattle.answers.specs.declared.Answer.the-variants.{Accepted, RowCount, BadRow, BadBit, WorkShort}
 use Rattle.answers.specs.Answer.{lent}
+use Rattle.answers.specs.Result.{result}
 use Rattle.lists.proofs.Build.{build-length, build-front}
 use Rattle.rows.specs.declared.Graph.{Graph}
 use Rattle.rows.specs.declared.Graph.the-variants.{Source, Target}
@@ -18,7 +19,8 @@ use Rattle.encoding.specs.Encoding.{badRow, badBit}
 use Rattle.wf.specs.Widths.{illRow, widths, widthsTo, rowWidth}
 use Rattle.wf.specs.Pass.{stopRow}
 use Rattle.wf.proofs.Stop.{stop-none, stop-ill}
-use Rattle.widths.specs.Widths.{out, illFormed, rowsAnswer, graphWidths}
+use Rattle.refusals.specs.Rows.{illFormed, rowsAnswer}
+use Rattle.widths.specs.Widths.{graphWidths}
 
 -- a bad row, a bad bit and an ill-formed row zero the list
 lent-zero : (p q : Bool) (graph : Graph) (a b d row : ℕ) (old new : List ℕ)
@@ -45,35 +47,35 @@ module _ (graph : Graph) (g bits side ws : List ℕ) where
       go (yes l) = rw (lt-ltb _ _ l)
       go (no l) = ap (rowsAnswer graph g bits) (stop-ill graph (length bits) side g h (omega arith))
 
-  pub widths-15 : ragged graph g ≡ true → graphWidths graph g bits side ws ≡ out (RowCount (graphNumber graph)) ws
+  pub widths-15 : ragged graph g ≡ true → graphWidths graph g bits side ws ≡ result (RowCount (graphNumber graph)) (ws ∷ [])
   widths-15 r = rw r
 
   module _ (whole : ragged graph g ≡ false) where
-    pub widths-18 : length ws < rowCount graph g → graphWidths graph g bits side ws ≡ out (WorkShort (graphNumber graph)) ws
+    pub widths-18 : length ws < rowCount graph g → graphWidths graph g bits side ws ≡ result (WorkShort (graphNumber graph)) (ws ∷ [])
     widths-18 h = rw (whole, lt-ltb _ _ h)
 
     module _ (room : rowCount graph g ≤ length ws) where
       pub widths-stop : stopRow graph (length bits) side g < rowCount graph g
-          → graphWidths graph g bits side ws ≡ out (rowsAnswer graph g bits (stopRow graph (length bits) side g)) (replicate (length ws) 0)
+          → graphWidths graph g bits side ws ≡ result (rowsAnswer graph g bits (stopRow graph (length bits) side g)) (replicate (length ws) 0 ∷ [])
       widths-stop h =
           rw (whole, le-ltb _ _ room, stop-answer h)
-          (ap (out (rowsAnswer graph g bits (stopRow graph (length bits) side g))) (lent-rows graph g bits (stopRow graph (length bits) side g) h ws (widths graph (length bits) side g)))
+          (ap (λ (l : List ℕ). result (rowsAnswer graph g bits (stopRow graph (length bits) side g)) (l ∷ [])) (lent-rows graph g bits (stopRow graph (length bits) side g) h ws (widths graph (length bits) side g)))
 
       module _ (all : rowCount graph g ≤ stopRow graph (length bits) side g) where
         pub widths-17 : badBit bits < length bits
-            → graphWidths graph g bits side ws ≡ out (BadBit (badBit bits) (graphNumber graph)) (replicate (length ws) 0)
+            → graphWidths graph g bits side ws ≡ result (BadBit (badBit bits) (graphNumber graph)) (replicate (length ws) 0 ∷ [])
         widths-17 h =
             let good : rowCount graph g ≤ badRow graph g = omega (arith, stop-none graph (length bits) side g all .0) in
             rw (whole, le-ltb _ _ room, le-ltb _ _ good, lt-ltb _ _ h)
 
         pub widths-accepted : length bits ≤ badBit bits
             → graphWidths graph g bits side ws
-            ≡ out Accepted (widths graph (length bits) side g ++ replicate (length ws - rowCount graph g) 0)
+            ≡ result Accepted ((widths graph (length bits) side g ++ replicate (length ws - rowCount graph g) 0) ∷ [])
         widths-accepted clean =
             let good : rowCount graph g ≤ badRow graph g = omega (arith, stop-none graph (length bits) side g all .0) in
             let formed : rowCount graph g ≤ illRow graph (length bits) side g = omega (arith, stop-none graph (length bits) side g all .1) in
             rw (whole, le-ltb _ _ room, le-ltb _ _ good, le-ltb _ _ clean, le-ltb _ _ formed)
-            (ap (λ (n : ℕ). out Accepted (widths graph (length bits) side g ++ replicate (length ws - n) 0))
+            (ap (λ (n : ℕ). result Accepted ((widths graph (length bits) side g ++ replicate (length ws - n) 0) ∷ []))
             (build-length (rowWidth graph (length bits) side g) (rowCount graph g)))
 
 -- the list that the row loop left, with zeros from row n on, where it came to the end

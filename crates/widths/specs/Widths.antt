@@ -1,37 +1,17 @@
 -- The operations Source widths, Target widths and Roots (01, 'Operations and what they refuse'). Assumes nothing.
 use Prim.Native.Nat.{ℕ}
 use mathlib.Core.Bool.{cond}
-use mathlib.Core.List.{List, []}
+use mathlib.Core.List.{List, [], _∷_}
 use lib.Dec.{ltb}
 use lib.ListN.{length}
 use Rattle.answers.specs.declared.Answer.{Answer}
-use Rattle.answers.specs.declared.Answer.the-variants.{Accepted, Ext, Core, RowCount, BadRow, BadBit, WorkShort, BadRoot}
-use Rattle.answers.specs.Answer.{lent}
+use Rattle.answers.specs.declared.Answer.the-variants.{Accepted, RowCount, WorkShort, BadRoot}
+use Rattle.answers.specs.Result.{Result, leaves}
 use Rattle.rows.specs.declared.Graph.{Graph}
 use Rattle.rows.specs.declared.Graph.the-variants.{Source, Target}
 use Rattle.rows.specs.Row.{graphNumber, rowCount, ragged}
-use Rattle.encoding.specs.Encoding.{badRow, badBit}
+use Rattle.refusals.specs.Rows.{rowsAnswer}
 use Rattle.wf.specs.Widths.{illRow, widths, badRoot}
-
--- an answer and what stands in the lent list afterwards
-pub record Out : Type 0 where
-  pub answer : Answer
-  pub list : List ℕ
-
-abbrev pub out : Answer → List ℕ → Out
-out a l = record { answer = a; list = l }
-
--- "1 Ext (row); 2 Core (row)"
-abbrev pub illFormed : Graph → ℕ → Answer
-illFormed Source row = Ext row
-illFormed Target row = Core row
-
--- 16, 17, then the row named as ill-formed, if it is a row: each is looked for everywhere before the next
-abbrev pub rowsAnswer : Graph → List ℕ → List ℕ → ℕ → Answer
-rowsAnswer graph g bits ill =
-    let n = rowCount graph g in
-    cond (ltb (badRow graph g) n) (BadRow (badRow graph g) (graphNumber graph))
-    (cond (ltb (badBit bits) (length bits)) (BadBit (badBit bits) (graphNumber graph)) (cond (ltb ill n) (illFormed graph ill) Accepted))
 
 -- "15, 18, 16, 17, then 1 or 2", over a lent list with room for some words. "With Check's places": 18 names the source's list by 1, the target's by 2
 abbrev pub widthsAnswer : Graph → List ℕ → List ℕ → List ℕ → ℕ → Answer
@@ -40,15 +20,15 @@ widthsAnswer graph g bits side room =
     (cond (ltb room (rowCount graph g)) (WorkShort (graphNumber graph)) (rowsAnswer graph g bits (illRow graph (length bits) side g)))
 
 -- the whole outcome over the words of the graph, its bits, its side list and the list lent
-abbrev pub graphWidths : Graph → List ℕ → List ℕ → List ℕ → List ℕ → Out
+abbrev pub graphWidths : Graph → List ℕ → List ℕ → List ℕ → List ℕ → Result
 graphWidths graph g bits side ws =
     let a = widthsAnswer graph g bits side (length ws) in
-    out a (lent a ws (widths graph (length bits) side g))
+    leaves a ((ws, widths graph (length bits) side g) ∷ [])
 
-abbrev pub sourceWidths : List ℕ → List ℕ → List ℕ → List ℕ → Out
+abbrev pub sourceWidths : List ℕ → List ℕ → List ℕ → List ℕ → Result
 sourceWidths source bits side ws = graphWidths Source source bits side ws
 
-abbrev pub targetWidths : List ℕ → List ℕ → List ℕ → Out
+abbrev pub targetWidths : List ℕ → List ℕ → List ℕ → Result
 targetWidths target bits ws = graphWidths Target target bits [] ws
 
 -- "19 BadRoot (list position) for a row past the widths or a width not 1"

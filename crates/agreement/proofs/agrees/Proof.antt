@@ -1,4 +1,4 @@
--- `agreement::agrees` meets its contract: each operation by its function. Assumes nothing.
+-- Each operation by its function, which the first word chooses. Assumes nothing.
 use mathlib.Core.Bool.{false≢true}
 use Rattle.agreement.specs.Agrees.{source-widths, target-widths, roots, value-list, lowered, book, book-section}
 use borrow.Author.Needs.{needs}

@@ -1,4 +1,4 @@
--- `agreement::same_section` meets its contract: the number is the one word of list 1. Assumes nothing.
+-- The number is the one word of list 1. Assumes nothing.
 use mathlib.Core.Path.{_∙_, sym, ap, subst}
 use mathlib.Core.List.{List}
 use Prim.Native.Nat.{ℕ}

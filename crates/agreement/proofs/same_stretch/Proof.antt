@@ -1,17 +1,13 @@
--- `agreement::same_stretch` meets its contract: the answer and the stretch, each by its test. Assumes nothing.
-use mathlib.Core.Path.{_∙_, sym, ap}
+-- The answer and the stretch, each by its test. Assumes nothing.
+use mathlib.Core.Path.{_∙_, sym}
 use mathlib.Core.Bool.{false≢true}
 use borrow.Author.Tests.{not-false}
-use Rattle.answers.specs.Answer.{wordsOf}
 use borrow.Author.Needs.{needs}
 use Rattle.agreement.proofs.same_stretch.Statement.{statement}
 use Rattle.agreement.proofs.same_stretch.Tie as tie
 
-section-answer-requires : tie.Need-section-answer-requires
-section-answer-requires c κs = search needs
-
-words-of-requires : tie.Need-words-of-requires
-words-of-requires c κs = search needs
+gilfrunt-section-answer-requires : tie.Need-gilfrunt-section-answer-requires
+gilfrunt-section-answer-requires c κs = search needs
 
 same-answer-requires : tie.Need-same-answer-requires
 same-answer-requires c κs = search needs
@@ -30,15 +26,14 @@ same-bytes-requires c κs = search needs
 
 returns-2 : tie.Need-returns-2
 returns-2 c =
-    let words = c .before .before .before .before .before .words-of .ensures ∙ ap wordsOf (c .before .before .before .before .before .before .section-answer .ensures) in
-    λ e. (sym words ∙ c .before .before .before .before .same-answer .ensures .0 (not-false _ (c .before .before .before .if1 .left)), sym (c .before .before .section .ensures) ∙ c .same-bytes .ensures .0 e ∙ c .before .expected .ensures)
+    let a = c .before .before .before .before in
+    λ e. (sym (a .before .gilfrunt-section-answer .ensures) ∙ a .same-answer .ensures .0 (not-false _ (c .before .before .before .if1 .left)), sym (c .before .before .section .ensures) ∙ c .same-bytes .ensures .0 e ∙ c .before .expected .ensures)
 
 pub same-stretch-spec : {M : Type 1} → statement M
 same-stretch-spec =
     tie.close
     (tie.spec
-    section-answer-requires
-    words-of-requires
+    gilfrunt-section-answer-requires
     same-answer-requires
     returns
     section-requires

@@ -1,4 +1,4 @@
--- `book::bad_section` meets its contract. Assumes nothing.
+-- The tests in the definition's order. Assumes nothing.
 use mathlib.Core.Path.{sym, _∙_}
 use Rattle.book.proofs.Shape.{bad-start, bad-end, bits-good, words-good}
 use borrow.Author.Needs.{needs}

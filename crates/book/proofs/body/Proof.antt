@@ -1,4 +1,4 @@
--- `book::body` meets its contract. Assumes nothing.
+-- A good book's section lies within the book, from its start to its end. Assumes nothing.
 use Prim.Native.Nat.{_≤_}
 use lib.ListN.{length}
 use Rattle.book.proofs.Shape.{good-book, body-is}

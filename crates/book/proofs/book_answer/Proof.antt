@@ -1,4 +1,4 @@
--- `book::book_answer` meets its contract. Assumes nothing.
+-- The tests in the definition's order; past the second the last section ends within the book. Assumes nothing.
 use Rattle.book.proofs.Shape.{too-short, off-place, last-within, left-over, good-shape}
 use borrow.Author.Needs.{needs}
 use Rattle.book.proofs.book_answer.Statement.{statement}

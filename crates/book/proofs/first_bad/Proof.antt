@@ -1,4 +1,4 @@
--- `book::first_bad` meets its contract. Assumes nothing.
+-- Invariant: no section below i is bad, and due is where section i + 1 must start. Assumes nothing.
 use Prim.Native.Nat.{ℕ, _≤_, _<_, _-_}
 use mathlib.Core.Path.{_≡_, refl, sym, _∙_}
 use mathlib.Core.Bool.{false}

@@ -1,4 +1,4 @@
--- `book::is_bits` meets its contract. Assumes nothing.
+-- Both tests in the definition's order. Assumes nothing.
 use borrow.Author.Tests.{eq-eqb, ne-eqb}
 use Rattle.book.proofs.is_bits.Statement.{statement}
 use Rattle.book.proofs.is_bits.Tie as tie

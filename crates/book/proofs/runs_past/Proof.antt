@@ -1,4 +1,4 @@
--- `book::runs_past` meets its contract. Assumes nothing.
+-- A sum that wraps comes out below its first part, and then passes every n; else it is exact. Assumes nothing.
 use mathlib.Core.Path.{sym}
 use borrow.Author.Tests.{lt-ltb}
 use Rattle.book.proofs.Shape.{wraps-past, sum-whole}

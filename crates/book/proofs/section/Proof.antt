@@ -1,4 +1,4 @@
--- `book::section` meets its contract. Assumes nothing.
+-- An accepted number names a section of a good book. Assumes nothing.
 use mathlib.Core.Path.{_≡_, sym, _∙_}
 use mathlib.Core.Bool.{true, false}
 use Rattle.answers.specs.Answer.{isAccepted}

@@ -1,4 +1,4 @@
--- `book::section_answer` meets its contract. Assumes nothing.
+-- The number's two tests, then the book's answer. Assumes nothing.
 use borrow.Author.Tests.{eq-eqb, ne-eqb, lt-ltb, le-ltb}
 use borrow.Author.Needs.{needs}
 use Rattle.book.proofs.section_answer.Statement.{statement}

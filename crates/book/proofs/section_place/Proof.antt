@@ -1,4 +1,4 @@
--- `book::section_place` meets its contract. Assumes nothing.
+-- An accepted number names a section of a good book, whose entry is read. Assumes nothing.
 use mathlib.Core.Path.{_≡_, sym, _∙_}
 use mathlib.Core.Bool.{true, false}
 use borrow.Author.Tests.{not-true, not-false}

@@ -1,4 +1,4 @@
--- `cases::after_list` meets its contract. Assumes nothing.
+-- The count fits behind its place, or the end is one past the line's. Assumes nothing.
 use borrow.Author.Needs.{needs}
 use Rattle.cases.proofs.after_list.Statement.{statement}
 use Rattle.cases.proofs.after_list.Tie as tie

@@ -1,4 +1,4 @@
--- `cases::after_lists` meets its contract: what is left of the lists leads to the same place. Assumes nothing.
+-- What is left of the lists leads to the same place. Assumes nothing.
 use Prim.Native.Nat.{ℕ, _+_, _<_, _≤_, _-_, max}
 use mathlib.Core.Path.{_≡_, _∙_, sym, ap}
 use native.Mathlib.Omega.{arith}

@@ -1,4 +1,4 @@
--- `cases::answer_at` meets its contract. Assumes nothing.
+-- The place after as many lists as the second word says. Assumes nothing.
 use mathlib.Core.Path.{_∙_}
 use native.Mathlib.Omega.{arith}
 use borrow.Author.Needs.{needs}

@@ -1,4 +1,4 @@
--- `cases::expected` meets its contract. Assumes nothing.
+-- The list at the place after the lent lists before it. Assumes nothing.
 use mathlib.Core.Path.{_∙_}
 use borrow.Author.Needs.{needs}
 use Rattle.cases.proofs.expected.Statement.{statement}

@@ -1,4 +1,4 @@
--- `cases::given` meets its contract. Assumes nothing.
+-- The list at the place after the lists before it. Assumes nothing.
 use mathlib.Core.Path.{_∙_}
 use Rattle.cases.proofs.Case.{list-fits}
 use borrow.Author.Needs.{needs}

@@ -1,4 +1,4 @@
--- `cases::has_shape` meets its contract: a law for each test. Assumes nothing.
+-- A law for each test. Assumes nothing.
 use Rattle.cases.proofs.Case.{shape-lists, shape-lent, shape-rest}
 use borrow.Author.Needs.{needs}
 use Rattle.cases.proofs.has_shape.Statement.{statement}

@@ -1,4 +1,4 @@
--- `cases::list_at` meets its contract: a list past the end, cut short, or whole. Assumes nothing.
+-- A list past the end, cut short, or whole. Assumes nothing.
 use Rattle.cases.proofs.Case.{list-past, list-cut, list-whole}
 use Prim.Native.Nat.{_+_, _-_, _<_}
 use native.Mathlib.Omega.{arith}

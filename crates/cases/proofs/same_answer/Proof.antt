@@ -1,4 +1,4 @@
--- `cases::same_answer` meets its contract: number, place and detail, each by its word. Assumes nothing.
+-- Number, place and detail, each by its word. Assumes nothing.
 use mathlib.Core.Path.{_∙_}
 use mathlib.Core.Bool.{false≢true}
 use borrow.Author.Tests.{eq-eqb, eqb-true}

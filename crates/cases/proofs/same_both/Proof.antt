@@ -1,4 +1,4 @@
--- `cases::same_both` meets its contract: each list by `same_lent`. Assumes nothing.
+-- Each list by `same_lent`. Assumes nothing.
 use mathlib.Core.Bool.{false≢true}
 use borrow.Author.Tests.{not-false}
 use borrow.Author.Needs.{needs}

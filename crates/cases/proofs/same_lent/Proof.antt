@@ -1,4 +1,4 @@
--- `cases::same_lent` meets its contract, by `same_list`. Assumes nothing.
+-- By `same_list`, on the list expected. Assumes nothing.
 use borrow.Author.Needs.{needs}
 use Rattle.cases.proofs.same_lent.Statement.{statement}
 use Rattle.cases.proofs.same_lent.Tie as tie

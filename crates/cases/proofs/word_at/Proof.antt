@@ -1,4 +1,4 @@
--- `cases::word_at` meets its contract. Assumes nothing.
+-- The word, or 0 past the end. Assumes nothing.
 use lib.ListN.{List·getD-eq-default}
 use borrow.Author.Needs.{needs}
 use Rattle.cases.proofs.word_at.Statement.{statement}

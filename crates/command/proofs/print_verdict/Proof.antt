@@ -1,4 +1,4 @@
--- `command::print_verdict` meets its contract: the front that is written is as long as `verdict_line` says. Assumes nothing.
+-- The front that is written is as long as `verdict_line` says. Assumes nothing.
 use mathlib.Core.Path.{sym}
 use borrow.Author.Needs.{needs}
 use lib.Seq.{length-take-le}

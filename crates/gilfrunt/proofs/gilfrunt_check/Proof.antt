@@ -28,12 +28,15 @@ same-length-3 c = search needs
 same-length-4 : tie.Need-same-length-4
 same-length-4 c = search needs
 
--- the call's place, and the entry's
+-- the call's place, that of the lists that are read, and the entry's
 abbrev call : tie.After-words-of → tie.After-check
 call c = c .before .before .before .before .before .before .before .before .before
 
-abbrev entry : tie.After-check → tie.Start
-entry c = c .before .before .before .before .before .before .before .before .before .before .before .before .before .before .before .before .before .before .before .before
+abbrev read : tie.After-check → tie.After-shared-slice-known11
+read c = c .before .before .before .before .before .before .before .before .before
+
+abbrev entry : tie.After-shared-slice-known11 → tie.Start
+entry c = c .before .before .before .before .before .before .before .before .before .before .before
 
 -- owning the target's slice bounds its length
 slice : (c : tie.Start) → length (c .args .target .now) ≤ MAX
@@ -43,7 +46,7 @@ returns : tie.Need-returns
 returns c =
     let w = c .words-of .ensures in
     let o = call c .check .ensures in
-    let s = entry (call c) in
+    let s = entry (read (call c)) in
     let k = s .args in
     (rw w (ap checkedOf o), check-sound _ _ w (k .ws0 .now) (k .ws1 .now) (k .classes .now) (k .entries .now) _ _ _ _ _ (slice s) o)
 

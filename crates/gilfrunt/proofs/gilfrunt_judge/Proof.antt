@@ -31,12 +31,15 @@ same-length-4 c = search needs
 same-length-5 : tie.Need-same-length-5
 same-length-5 c = search needs
 
--- the call's place, and the entry's
+-- the call's place, that of its arguments, and the entry's
 abbrev call : tie.After-words-of → tie.After-judge
 call c = c .before .before .before .before .before .before .before .before .before .before .before
 
-abbrev entry : tie.After-judge → tie.Start
-entry c = c .before .before .before .before .before .before .before .before .before .before .before .before
+abbrev lent : tie.After-judge → tie.After-slice-known5
+lent c = c .before .before .before .before .before .before
+
+abbrev entry : tie.After-slice-known5 → tie.Start
+entry c = c .before .before .before .before .before .before
 
 -- owning the book's slice bounds its length
 slice : (c : tie.Start) → length (c .args .book .now) ≤ MAX
@@ -46,7 +49,7 @@ returns : tie.Need-returns
 returns c =
     let w = c .words-of .ensures in
     let o = call c .judge .ensures in
-    let s = entry (call c) in
+    let s = entry (lent (call c)) in
     let k = s .args in
     (rw w (ap judgementOf o), book-sound _ _ w (k .ws0 .now) (k .ws1 .now) (k .classes .now) (k .entries .now) _ _ _ _ (k .book .now) (k .words .now) _ (slice s) o)
 

@@ -1,16 +1,43 @@
--- `judge::judge` meets its contract. Assumes nothing.
-use Prim.Native.Nat.{_≤_}
+-- Each return is one law of proofs/Outcome: past the first test the book is good, past the second all five lists have room. Assumes nothing.
 use lib.ListN.{length}
-use Rattle.checker.proofs.Outcome.{zeros-long}
 use Rattle.book.specs.Book.{sections}
-use Rattle.book.proofs.Words.{filled-rest}
-use Rattle.judge.specs.Judge.{bookWords}
-use mathlib.Core.Path.{refl, sym, _∙_}
+use Rattle.bodies.proofs.Words.{filled-rest}
+use mathlib.Core.Path.{_≡_, sym, _∙_}
+use mathlib.Core.Bool.{true}
+use Rattle.answers.specs.declared.Answer.{Answer}
+use Rattle.answers.specs.Answer.{isAccepted}
+use Rattle.book.specs.Good.{Good}
 use borrow.Author.Tests.{not-true, not-false}
-use Rattle.judge.proofs.Outcome.{shape-done, room-done, check-refused, check-accepted, words-fit, by-lists, words-cleared}
+use Rattle.judge.proofs.Outcome.{room, shape-done, room-done, check-done, words-fit, words-left, by-lists}
 use borrow.Author.Needs.{needs}
 use Rattle.judge.proofs.judge.Statement.{statement}
 use Rattle.judge.proofs.judge.Tie as tie
+
+-- the book's answer to the entry; Check on its lists to their loading
+abbrev start : tie.After-book-answer → tie.Start
+start c = c .before .before .before .before .before .before .before
+
+abbrev load-of : tie.After-check-loaded → tie.After-load
+load-of c = c .before .before .before .before .before .before .before .before
+
+abbrev check-of : tie.After-leave-arg → tie.After-check-loaded
+check-of c = c .before .before .before .before .before .before .before .before .before
+
+-- past the first test the book is good, past the second all five lists have room
+abbrev entry : tie.Else1 → tie.Start
+entry c = start (c .before .before)
+
+good : (c : tie.Else1) → Good (entry c .args .book .now)
+good c = rw (c .before .before .book-answer .ensures) at (sym (c .before .is-accepted .ensures) ∙ not-false _ (c .if1 .left))
+
+abbrev shaped : tie.Else2 → tie.Else1
+shaped c = c .before .before .before
+
+abbrev roomOf : tie.Start → Answer
+roomOf c = let s = c .args in room (s .book .now) (s .ws0 .now) (s .ws1 .now) (s .cls .now) (s .ent .now) (s .words .now)
+
+roomy : (c : tie.Else2) → isAccepted (roomOf (entry (shaped c))) ≡ true
+roomy c = rw (c .before .before .room-answer .ensures) at (sym (c .before .is-accepted2 .ensures) ∙ not-false _ (c .if2 .left))
 
 book-answer-requires : tie.Need-book-answer-requires
 book-answer-requires c κs = search needs
@@ -20,6 +47,9 @@ is-accepted-requires c κs = search needs
 
 clear-all-requires : tie.Need-clear-all-requires
 clear-all-requires c κs = search needs
+
+clear-requires : tie.Need-clear-requires
+clear-requires c κs = search needs
 
 same-length : tie.Need-same-length
 same-length c = search needs
@@ -38,41 +68,48 @@ same-length-5 c = search needs
 
 returns : tie.Need-returns
 returns c =
-    let s = c .before .before .before .before .before .before .before .before .before .before .before .before .before .before .before .before .before .before .before .before .before .before .before .before .before .args in
-    let z = c .before .before .before .before .before .before .before .before .before .before .clear-all .ensures in
-    by-lists _ _ _ _ _ _ _ _ _ _ _ _ (z .0) (z .1 .0) (z .1 .1 .0) (z .1 .1 .1 .0) (z .1 .1 .1 .1) (shape-done (s .book .now) (s .ws0 .now) (s .ws1 .now) (s .cls .now) (s .ent .now) (s .words .now) _ (c .before .before .before .before .before .before .before .before .before .before .before .before .before .before .before .before .before .before .book-answer .ensures) (sym (c .before .before .before .before .before .before .before .before .before .before .before .before .before .before .before .before .before .is-accepted .ensures) ∙ not-true _ (c .before .before .before .before .before .before .before .before .before .before .before .before .before .before .before .before .if1 .taken)))
+    let last = c .before .before in
+    let four = last .before .before .before .before .before .before .before .before .before .before in
+    let t = four .before .before .before .before .before in
+    let s = start (t .before .before) .args in
+    let z = four .clear-all .ensures in
+    by-lists _ _ _ _ _ _ _ _ _ _ _ _ (z .0) (z .1 .0) (z .1 .1 .0) (z .1 .1 .1) (last .clear .ensures)
+    (shape-done (s .book .now) (s .ws0 .now) (s .ws1 .now) (s .cls .now) (s .ent .now) (s .words .now) _ (t .before .before .book-answer .ensures) (sym (t .before .is-accepted .ensures) ∙ not-true _ (t .if1 .taken)))
 
 room-answer-requires : tie.Need-room-answer-requires
-room-answer-requires c κs =
-    rw (c .before .before .book-answer .ensures) at (sym (c .before .is-accepted .ensures) ∙ not-false _ (c .if1 .left))
+room-answer-requires c κs = good c
 
 is-accepted-requires-2 : tie.Need-is-accepted-requires-2
 is-accepted-requires-2 c κs = search needs
 
 returns-2 : tie.Need-returns-2
 returns-2 c =
-    let s = c .before .before .before .before .before .before .before .before .before .before .before .before .args in
-    let g = rw (c .before .before .before .before .before .book-answer .ensures) at (sym (c .before .before .before .before .is-accepted .ensures) ∙ not-false _ (c .before .before .before .if1 .left)) in
-    room-done (s .book .now) (s .ws0 .now) (s .ws1 .now) (s .cls .now) (s .ent .now) (s .words .now) _ g (c .before .before .room-answer .ensures) (sym (c .before .is-accepted2 .ensures) ∙ not-true _ (c .if2 .taken))
+    let e = c .before .before .before in
+    let s = entry e .args in
+    room-done (s .book .now) (s .ws0 .now) (s .ws1 .now) (s .cls .now) (s .ent .now) (s .words .now) _ (good e) (c .before .before .room-answer .ensures) (sym (c .before .is-accepted2 .ensures) ∙ not-true _ (c .if2 .taken))
 
 load-requires : tie.Need-load-requires
 load-requires c κs =
-    let s = c .before .before .before .before .before .before .before .before .before .before .before .before .before .args in
-    let g = rw (c .before .before .before .before .before .before .book-answer .ensures) at (sym (c .before .before .before .before .before .is-accepted .ensures) ∙ not-false _ (c .before .before .before .before .if1 .left)) in
-    let r = rw (c .before .before .before .room-answer .ensures) at (sym (c .before .before .is-accepted2 .ensures) ∙ not-false _ (c .before .if2 .left)) in
-    (g, words-fit (s .book .now) (s .ws0 .now) (s .ws1 .now) (s .cls .now) (s .ent .now) (s .words .now) r)
+    let e = c .before in
+    let s = entry (shaped e) .args in
+    (good (shaped e), words-fit (s .book .now) (s .ws0 .now) (s .ws1 .now) (s .cls .now) (s .ent .now) (s .words .now) (roomy e))
 
 check-loaded-requires : tie.Need-check-loaded-requires
 check-loaded-requires c κs =
-    let s = c .before .before .before .before .before .before .before .before .before .before .before .before .before .before .before .before .before .before .before .before .before .args in
-    let g = rw (c .before .before .before .before .before .before .before .before .before .before .before .before .before .before .book-answer .ensures) at (sym (c .before .before .before .before .before .before .before .before .before .before .before .before .before .is-accepted .ensures) ∙ not-false _ (c .before .before .before .before .before .before .before .before .before .before .before .before .if1 .left)) in
-    (g, filled-rest (s .book .now) (s .words .now) sections _ (c .before .before .before .before .before .before .before .load .ensures))
+    let l = c .before .before .before .before .before .before .before in
+    let e = shaped (l .before .before) in
+    let s = entry e .args in
+    (good e, filled-rest (s .book .now) (s .words .now) sections _ (l .load .ensures))
 
 is-accepted-requires-3 : tie.Need-is-accepted-requires-3
 is-accepted-requires-3 c κs = search needs
 
-clear-requires : tie.Need-clear-requires
-clear-requires c κs = search needs
+leave-requires : tie.Need-leave-requires
+leave-requires c κs =
+    let l = load-of (check-of (c .before)) in
+    let e = shaped (l .before .before) in
+    let s = entry e .args in
+    (good e, filled-rest (s .book .now) (s .words .now) sections _ (l .load .ensures))
 
 same-length-6 : tie.Need-same-length-6
 same-length-6 c = search needs
@@ -91,44 +128,13 @@ same-length-10 c = search needs
 
 returns-3 : tie.Need-returns-3
 returns-3 c =
-    let s = c .before .before .before .before .before .before .before .before .before .before .before .before .before .before .before .before .before .before .before .before .before .before .before .before .before .before .before .before .before .before .before .before .before .before .before .before .args in
-    let g = rw (c .before .before .before .before .before .before .before .before .before .before .before .before .before .before .before .before .before .before .before .before .before .before .before .before .before .before .before .before .before .book-answer .ensures) at (sym (c .before .before .before .before .before .before .before .before .before .before .before .before .before .before .before .before .before .before .before .before .before .before .before .before .before .before .before .before .is-accepted .ensures) ∙ not-false _ (c .before .before .before .before .before .before .before .before .before .before .before .before .before .before .before .before .before .before .before .before .before .before .before .before .before .before .before .if1 .left)) in
-    let r = rw (c .before .before .before .before .before .before .before .before .before .before .before .before .before .before .before .before .before .before .before .before .before .before .before .before .before .before .room-answer .ensures) at (sym (c .before .before .before .before .before .before .before .before .before .before .before .before .before .before .before .before .before .before .before .before .before .before .before .before .before .is-accepted2 .ensures) ∙ not-false _ (c .before .before .before .before .before .before .before .before .before .before .before .before .before .before .before .before .before .before .before .before .before .before .before .before .if2 .left)) in
-    by-lists _ _ _ _ _ _ _ _ _ _ _ _ refl refl refl refl (zeros-long _ (length (s .words .now)) _ (c .before .before .clear .ensures) (c .before .before .before .before .before .before .before .before .before .before .before .before .before .before .before .before .before .before .before .before .before .before .load .kept .1 .0)) (check-refused (s .book .now) (s .ws0 .now) (s .ws1 .now) (s .cls .now) (s .ent .now) (s .words .now) _ g r _ _ _ _ (c .before .before .before .before .before .before .before .before .before .before .before .before .before .before .check-loaded .ensures) (sym (c .before .before .before .before .before .is-accepted3 .ensures) ∙ not-true _ (c .before .before .before .before .if3 .taken)))
-
-offset-requires : tie.Need-offset-requires
-offset-requires c κs =
-    let g = rw (c .before .before .before .before .before .before .before .before .before .before .before .before .before .before .before .before .before .before .before .before .before .before .before .before .before .before .book-answer .ensures) at (sym (c .before .before .before .before .before .before .before .before .before .before .before .before .before .before .before .before .before .before .before .before .before .before .before .before .before .is-accepted .ensures) ∙ not-false _ (c .before .before .before .before .before .before .before .before .before .before .before .before .before .before .before .before .before .before .before .before .before .before .before .before .if1 .left)) in
-    (search needs, g)
-
-clear-from-requires : tie.Need-clear-from-requires
-clear-from-requires c κs =
-    let s = c .before .before .before .before .before .before .before .before .before .before .before .before .before .before .before .before .before .before .before .before .before .before .before .before .before .before .before .before .before .before .before .before .before .before .args in
-    let r = rw (c .before .before .before .before .before .before .before .before .before .before .before .before .before .before .before .before .before .before .before .before .before .before .before .before .room-answer .ensures) at (sym (c .before .before .before .before .before .before .before .before .before .before .before .before .before .before .before .before .before .before .before .before .before .before .before .is-accepted2 .ensures) ∙ not-false _ (c .before .before .before .before .before .before .before .before .before .before .before .before .before .before .before .before .before .before .before .before .before .before .if2 .left)) in
-    let h : length (bookWords (s .book .now)) ≤ length (s .words .now) = words-fit (s .book .now) (s .ws0 .now) (s .ws1 .now) (s .cls .now) (s .ent .now) (s .words .now) r in
-    rw (c .offset .ensures, c .before .before .before .before .before .before .before .before .before .before .before .before .before .before .before .before .before .before .before .before .load .kept .1 .0) h
-
-same-length-11 : tie.Need-same-length-11
-same-length-11 c = search needs
-
-same-length-12 : tie.Need-same-length-12
-same-length-12 c = search needs
-
-same-length-13 : tie.Need-same-length-13
-same-length-13 c = search needs
-
-same-length-14 : tie.Need-same-length-14
-same-length-14 c = search needs
-
-same-length-15 : tie.Need-same-length-15
-same-length-15 c = search needs
-
-returns-4 : tie.Need-returns-4
-returns-4 c =
-    let s = c .before .before .before .before .before .before .before .before .before .before .before .before .before .before .before .before .before .before .before .before .before .before .before .before .before .before .before .before .before .before .before .before .before .before .before .before .before .args in
-    let g = rw (c .before .before .before .before .before .before .before .before .before .before .before .before .before .before .before .before .before .before .before .before .before .before .before .before .before .before .before .before .before .before .book-answer .ensures) at (sym (c .before .before .before .before .before .before .before .before .before .before .before .before .before .before .before .before .before .before .before .before .before .before .before .before .before .before .before .before .before .is-accepted .ensures) ∙ not-false _ (c .before .before .before .before .before .before .before .before .before .before .before .before .before .before .before .before .before .before .before .before .before .before .before .before .before .before .before .before .if1 .left)) in
-    let r = rw (c .before .before .before .before .before .before .before .before .before .before .before .before .before .before .before .before .before .before .before .before .before .before .before .before .before .before .before .room-answer .ensures) at (sym (c .before .before .before .before .before .before .before .before .before .before .before .before .before .before .before .before .before .before .before .before .before .before .before .before .before .before .is-accepted2 .ensures) ∙ not-false _ (c .before .before .before .before .before .before .before .before .before .before .before .before .before .before .before .before .before .before .before .before .before .before .before .before .before .if2 .left)) in
-    by-lists _ _ _ _ _ _ _ _ _ _ _ _ refl refl refl refl (words-cleared (bookWords (s .book .now)) _ _ _ _ (length (s .words .now)) (c .before .before .before .before .before .before .before .before .before .before .before .before .before .before .before .before .before .before .before .before .before .before .before .load .ensures) (c .before .before .before .offset .ensures) (c .before .before .before .before .before .before .before .before .before .before .before .before .before .before .before .before .before .before .before .before .before .before .before .load .kept .1 .0) (c .before .before .clear-from .ensures)) (check-accepted (s .book .now) (s .ws0 .now) (s .ws1 .now) (s .cls .now) (s .ent .now) (s .words .now) _ g r _ _ _ _ (c .before .before .before .before .before .before .before .before .before .before .before .before .before .before .before .check-loaded .ensures) (sym (c .before .before .before .before .before .before .is-accepted3 .ensures) ∙ not-false _ (c .before .before .before .before .before .if3 .left)))
+    let a = c .before .before .before in
+    let k = check-of (a .before) in
+    let l = load-of k in
+    let e = l .before .before in
+    let s = entry (shaped e) .args in
+    check-done (s .book .now) (s .ws0 .now) (s .ws1 .now) (s .cls .now) (s .ent .now) (s .words .now) _ (good (shaped e)) (roomy e) _ _ _ _ (k .check-loaded .ensures) _
+    (words-left (s .book .now) _ _ _ _ (length (s .words .now)) (c .before .before .leave .ensures) (a .is-accepted3 .ensures) (l .load .kept .1 .0))
 
 pub judge-spec : {M : Type 1} → statement M
 judge-spec =
@@ -137,6 +143,7 @@ judge-spec =
     book-answer-requires
     is-accepted-requires
     clear-all-requires
+    clear-requires
     same-length
     same-length-2
     same-length-3
@@ -149,18 +156,10 @@ judge-spec =
     load-requires
     check-loaded-requires
     is-accepted-requires-3
-    clear-requires
+    leave-requires
     same-length-6
     same-length-7
     same-length-8
     same-length-9
     same-length-10
-    returns-3
-    offset-requires
-    clear-from-requires
-    same-length-11
-    same-length-12
-    same-length-13
-    same-length-14
-    same-length-15
-    returns-4)
+    returns-3)

@@ -1,4 +1,4 @@
--- `judge::verdict` meets its contract. Assumes nothing.
+-- A book that is short enough has room in lists of these lengths; so has its target, which makes acceptance sound. Assumes nothing.
 use mathlib.Core.Path.{ap, _∙_}
 use native.Mathlib.Omega.{arith}
 use Rattle.judge.specs.Judge.{Judged}
@@ -34,8 +34,10 @@ judge-requires c κs = search needs
 
 returns-2 : tie.Need-returns-2
 returns-2 c =
-    let s = c .before .before .before .before .before .before .before .before .before .before .before .before .before in
-    let e = ap (λ (o : Judged). o .answer) (c .before .before .before .before .before .judge .ensures) ∙ verdict-is (s .args .book .now) _ _ _ _ _ (omega arith) (omega arith) (omega arith) (omega arith) (omega arith) (c .before .before .before .before .before .before .before .before .before .before .before .if1 .left) in
+    let k = c .before .before .before .before .before in
+    let t = k .before .before .before .before .before .before in
+    let s = t .before .before in
+    let e = ap (λ (o : Judged). o .answer) (k .judge .ensures) ∙ verdict-is (s .args .book .now) _ _ _ _ _ (omega arith) (omega arith) (omega arith) (omega arith) (omega arith) (t .if1 .left) in
     (e, verdict-sound (s .args .book .now) (omega (arith, s .good .0)) _ e)
 
 pub verdict-spec : {M : Type 1} → statement M

@@ -1,4 +1,4 @@
--- `line::put` meets its contract: what is put so far stands behind what stood before it. Assumes nothing.
+-- What is put so far stands behind what stood before it. Assumes nothing.
 use Prim.Native.Nat.{_+_, _-_, _<_, _≤_}
 use mathlib.Core.Path.{_≡_, refl, _∙_}
 use mathlib.Core.List.{_++_, append-nil}

@@ -1,4 +1,4 @@
--- `line::put_number` meets its contract: the digits, as `spell` leaves them, and a byte behind them. Assumes nothing.
+-- The digits, as `spell` leaves them, and a byte behind them. Assumes nothing.
 use Prim.Native.Nat.{_-_, _<_}
 use mathlib.Core.Path.{_∙_}
 use native.Mathlib.Omega.{arith}

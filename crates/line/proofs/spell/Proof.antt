@@ -1,4 +1,4 @@
--- `line::spell` meets its contract: the digits of what is left of the number, before those that stand already, are the whole number's. Assumes nothing.
+-- The digits of what is left of the number, before those that stand already, are the whole number's. Assumes nothing.
 use Prim.Native.Nat.{ℕ, suc, _-_, _/_, _^_, _<_}
 use mathlib.Core.Path.{_≡_, sym, ap, _∙_}
 use mathlib.Core.List.{[], _++_, append-nil}

@@ -1,4 +1,5 @@
--- `line::write_line` meets its contract: one text after the other. Assumes nothing.
+-- One text after the other: each call leaves what stood before and its own behind it. Assumes nothing.
+use mathlib.Core.Path.{refl}
 use native.Mathlib.Omega.{arith}
 use borrow.Author.Needs.{needs}
 use borrow.Author.Tests.{eq-eqb}
@@ -34,9 +35,10 @@ returns-2 : tie.Need-returns-2
 returns-2 c =
     let e = c .before .before .put-number2 in
     let d = c .before .before .before .before .put-number in
+    let t = c .before .before .before .before .before .before .before .before .before in
     let p = c .before .before .before .before .before .before .put2 in
-    let n = c .before .before .before .before .before .before .before .before .before .if1 .left in
-    (omega arith, refused-line _ _ _ _ _ n (p .ensures .1) (d .ensures .1) (e .ensures .1) (c .put-number3 .ensures .1))
+    let w = t .before .before .args .answer in
+    (omega arith, refused-line w _ _ _ _ _ _ (t .if1 .left) (p .ensures .1) (d .ensures .1) (e .ensures .1) (c .put-number3 .ensures .1) refl refl)
 
 pub write-line-spec : {M : Type 1} → statement M
 write-line-spec =

@@ -1,4 +1,4 @@
--- `replay::line_agrees` meets its contract: the words that were read are the line's. Assumes nothing.
+-- The words that were read are the line's. Assumes nothing.
 use Prim.Native.Nat.{ℕ}
 use mathlib.Core.Path.{subst}
 use mathlib.Core.List.{List}

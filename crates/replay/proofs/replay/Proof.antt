@@ -1,4 +1,4 @@
--- `replay::replay` meets its contract: no more cases than bytes passed, no more disagreements than cases. Assumes nothing.
+-- No more cases than bytes passed, no more disagreements than cases. Assumes nothing.
 use Prim.Native.Nat.{_≤_, _+_, _-_}
 use borrow.Author.Needs.{needs}
 use lib.ListN.{length}

@@ -1,4 +1,4 @@
--- `text::digit` meets its contract: a test for each bound. Assumes nothing.
+-- A test for each bound. Assumes nothing.
 use native.Mathlib.Omega.{arith}
 use borrow.Author.Tests.{lt-ltb, le-ltb, le-leb, lt-leb}
 use borrow.Author.Needs.{needs}

@@ -1,4 +1,4 @@
--- `text::digits_end` meets its contract: what is left of the digits ends at the same place. Assumes nothing.
+-- What is left of the digits ends at the same place. Assumes nothing.
 use Prim.Native.Nat.{_+_, _≤_, _-_}
 use mathlib.Core.Path.{_≡_, _∙_, sym, refl}
 use native.Mathlib.Omega.{arith}

@@ -1,4 +1,4 @@
--- `text::good_digits` meets its contract. Assumes nothing.
+-- How many digits there are, then no leading zero, in the definition's order. Assumes nothing.
 use borrow.Author.Tests.{eq-eqb, ne-eqb, lt-ltb, le-ltb}
 use borrow.Author.Needs.{needs}
 use Rattle.text.specs.Line.{goodDigits}

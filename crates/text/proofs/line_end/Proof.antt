@@ -1,4 +1,4 @@
--- `text::line_end` meets its contract: the place only grows, within the text. Assumes nothing.
+-- The place only grows, within the text. Assumes nothing.
 use Prim.Native.Nat.{_≤_, _-_}
 use borrow.Author.Needs.{needs}
 use lib.ListN.{length}

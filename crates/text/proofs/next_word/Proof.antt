@@ -1,4 +1,4 @@
--- `text::next_word` meets its contract: a law for each return. Assumes nothing.
+-- A law for each return. Assumes nothing.
 use mathlib.Core.Path.{_∙_, sym, refl}
 use native.Mathlib.Omega.{arith}
 use borrow.Author.Tests.{not-true, not-false}

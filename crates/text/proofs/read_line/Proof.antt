@@ -1,4 +1,4 @@
--- `text::read_line` meets its contract: the words so far and what is left of the line give the same words. Assumes nothing.
+-- The words so far and what is left of the line give the same words. Assumes nothing.
 use Prim.Native.Nat.{_+_, _≤_, _<_, _-_}
 use mathlib.Core.Path.{_≡_, _∙_, sym, refl}
 use native.Mathlib.Nat.{sub-zero}

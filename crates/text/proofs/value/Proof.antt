@@ -1,4 +1,4 @@
--- `text::value` meets its contract: what is left of the digits gives the same number. Assumes nothing.
+-- What is left of the digits gives the same number. Assumes nothing.
 use Prim.Native.Nat.{_≤_, _-_}
 use mathlib.Core.Path.{_≡_, _∙_, sym, refl}
 use native.Mathlib.Omega.{arith}

@@ -1,4 +1,4 @@
--- `text::word_ends` meets its contract. Assumes nothing.
+-- At the end of the line or before a space. Assumes nothing.
 use borrow.Author.Tests.{le-leb, lt-leb}
 use borrow.Author.Needs.{needs}
 use Rattle.text.specs.Line.{wordEnds}

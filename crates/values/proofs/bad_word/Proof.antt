@@ -1,4 +1,4 @@
--- `values::bad_word` meets its contract. Assumes nothing.
+-- Invariant: no word below i is bad; word i itself ends the search. Assumes nothing.
 use Prim.Native.Nat.{ℕ, _≤_, _<_, _-_}
 use mathlib.Core.Path.{_≡_, _∙_, sym}
 use mathlib.Core.Bool.{false}

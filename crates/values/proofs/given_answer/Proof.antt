@@ -1,4 +1,4 @@
--- `values::given_answer` meets its contract. Assumes nothing.
+-- 21, 22 and 23 in the definition's order. Assumes nothing.
 use mathlib.Core.Path.{sym}
 use borrow.Author.Tests.{lt-ltb, le-ltb, eq-eqb, ne-eqb}
 use borrow.Author.Needs.{needs}

@@ -1,4 +1,4 @@
--- `values::too_wide` meets its contract. Assumes nothing.
+-- Invariant: no row below i is wider than 64 bits; row i itself ends the search. Assumes nothing.
 use Prim.Native.Nat.{ℕ, _≤_, _<_, _-_}
 use mathlib.Core.Path.{_≡_, sym}
 use mathlib.Core.Bool.{false}

@@ -1,6 +1,7 @@
--- `values::values` meets its contract. Assumes nothing.
+-- Each return is one law of proofs/Outcome, with what the calls before it left. Assumes nothing.
 use mathlib.Core.Path.{sym, ap, ap₂, _∙_}
-use mathlib.Core.List.{[]}
+use Prim.Native.Nat.{ℕ}
+use mathlib.Core.List.{List, [], _∷_}
 use native.Mathlib.Omega.{arith}
 use borrow.Author.Tests.{not-true, not-false}
 use lib.ListN.{length}
@@ -10,7 +11,7 @@ use Rattle.lists.proofs.Build.{build-length}
 use Rattle.rows.specs.declared.Graph.the-variants.{Target}
 use Rattle.rows.specs.Row.{rowCount}
 use Rattle.wf.specs.Widths.{rowWidth}
-use Rattle.values.specs.Values.{out}
+use Rattle.answers.specs.Result.{result}
 use Rattle.values.proofs.Outcome.{values-15, values-18, values-18-too, values-rows, values-given, values-accepted}
 use Rattle.values.proofs.Given.{evaluable}
 use Rattle.values.proofs.Steps.{widths-answer, widths-refused, widths-accepted, widths-front, values-list}
@@ -61,14 +62,23 @@ same-length-2 c = search needs
 
 returns-4 : tie.Need-returns-4
 returns-4 c =
-    let s = c .before .before .before .before .before .before .before .before .before .before .before .before .before .before .before .before .before .before .before .before .args in
-    let count = c .before .before .before .before .before .before .before .before .before .before .before .before .row-count .ensures in
-    let whole = sym (c .before .before .before .before .before .before .before .before .before .before .before .before .before .before .is-ragged .ensures) ∙ c .before .before .before .before .before .before .before .before .before .before .before .before .before .if1 .left in
-    let room = rw count at (c .before .before .before .before .before .before .before .before .before .before .before .if2 .left) in
-    let room-too = rw count at (c .before .before .before .before .before .before .before .before .before .before .if3 .left) in
-    let w = c .before .before .before .before .before .before .before .before .target-widths in
+    let then4 = c .before .before .before .before in
+    let at-is-accepted = then4 .before in
+    let at-target-widths = at-is-accepted .before .before .before in
+    let else3 = at-target-widths .before .before in
+    let else2 = else3 .before in
+    let at-row-count = else2 .before in
+    let else1 = at-row-count .before in
+    let at-is-ragged = else1 .before in
+    let start = at-is-ragged .before .before .before .before .before .before in
+    let s = start .args in
+    let count = at-row-count .row-count .ensures in
+    let whole = sym (at-is-ragged .is-ragged .ensures) ∙ else1 .if1 .left in
+    let room = rw count at (else2 .if2 .left) in
+    let room-too = rw count at (else3 .if3 .left) in
+    let w = at-target-widths .target-widths in
     let answer = widths-answer (s .target .now) (s .bits .now) (s .ws .now) _ _ (w .ensures) whole room in
-    let rows = rw answer at (sym (c .before .before .before .before .before .is-accepted .ensures) ∙ not-true _ (c .before .before .before .before .if4 .taken)) in
+    let rows = rw answer at (sym (at-is-accepted .is-accepted .ensures) ∙ not-true _ (then4 .if4 .taken)) in
     rw (widths-refused (s .target .now) (s .bits .now) (s .ws .now) _ _ (w .ensures) whole room rows, c .before .before .clear .ensures, answer) (sym (values-rows (s .target .now) (s .bits .now) (s .given .now) (s .ws .now) (s .vs .now) whole room room-too rows))
 
 slice-reshare-prefix-given-answer : tie.Need-slice-reshare-prefix-given-answer
@@ -79,12 +89,19 @@ slice-aggregate-given-answer c = sym (length-take-le _ _ (omega (arith, c .befor
 
 given-answer-requires : tie.Need-given-answer-requires
 given-answer-requires c κs =
-    let s = c .before .before .before .before .before .before .before .before .before .before .before .before .before .before .before .before .before .args in
-    let count = c .before .before .before .before .before .before .before .before .before .row-count .ensures in
-    let whole = sym (c .before .before .before .before .before .before .before .before .before .before .before .is-ragged .ensures) ∙ c .before .before .before .before .before .before .before .before .before .before .if1 .left in
-    let room = rw count at (c .before .before .before .before .before .before .before .before .if2 .left) in
-    let room-too = rw count at (c .before .before .before .before .before .before .before .if3 .left) in
-    let w = c .before .before .before .before .before .target-widths in
+    let at-target-widths = c .before .before .before .before .before in
+    let else3 = at-target-widths .before .before in
+    let else2 = else3 .before in
+    let at-row-count = else2 .before in
+    let else1 = at-row-count .before in
+    let at-is-ragged = else1 .before in
+    let start = at-is-ragged .before .before .before .before .before .before in
+    let s = start .args in
+    let count = at-row-count .row-count .ensures in
+    let whole = sym (at-is-ragged .is-ragged .ensures) ∙ else1 .if1 .left in
+    let room = rw count at (else2 .if2 .left) in
+    let room-too = rw count at (else3 .if3 .left) in
+    let w = at-target-widths .target-widths in
     let answer = widths-answer (s .target .now) (s .bits .now) (s .ws .now) _ _ (w .ensures) whole room in
     let rows = rw answer at (sym (c .before .before .is-accepted .ensures) ∙ not-false _ (c .before .if4 .left)) in
     let front = widths-front (s .target .now) (s .bits .now) (s .ws .now) _ _ (w .ensures) whole room rows _ count in
@@ -107,18 +124,31 @@ same-length-4 c = search needs
 
 returns-5 : tie.Need-returns-5
 returns-5 c =
-    let s = c .before .before .before .before .before .before .before .before .before .before .before .before .before .before .before .before .before .before .before .before .before .before .before .before .before .before .before .before .args in
-    let count = c .before .before .before .before .before .before .before .before .before .before .before .before .before .before .before .before .before .before .before .before .row-count .ensures in
-    let whole = sym (c .before .before .before .before .before .before .before .before .before .before .before .before .before .before .before .before .before .before .before .before .before .before .is-ragged .ensures) ∙ c .before .before .before .before .before .before .before .before .before .before .before .before .before .before .before .before .before .before .before .before .before .if1 .left in
-    let room = rw count at (c .before .before .before .before .before .before .before .before .before .before .before .before .before .before .before .before .before .before .before .if2 .left) in
-    let room-too = rw count at (c .before .before .before .before .before .before .before .before .before .before .before .before .before .before .before .before .before .before .if3 .left) in
-    let w = c .before .before .before .before .before .before .before .before .before .before .before .before .before .before .before .before .target-widths in
+    let at-clear2 = c .before .before .before .before .before .before in
+    let then5 = at-clear2 .before .before in
+    let at-is-accepted2 = then5 .before in
+    let at-given-answer = at-is-accepted2 .before in
+    let else4 = at-given-answer .before .before in
+    let at-is-accepted = else4 .before in
+    let at-target-widths = at-is-accepted .before .before .before in
+    let else3 = at-target-widths .before .before in
+    let else2 = else3 .before in
+    let at-row-count = else2 .before in
+    let else1 = at-row-count .before in
+    let at-is-ragged = else1 .before in
+    let start = at-is-ragged .before .before .before .before .before .before in
+    let s = start .args in
+    let count = at-row-count .row-count .ensures in
+    let whole = sym (at-is-ragged .is-ragged .ensures) ∙ else1 .if1 .left in
+    let room = rw count at (else2 .if2 .left) in
+    let room-too = rw count at (else3 .if3 .left) in
+    let w = at-target-widths .target-widths in
     let answer = widths-answer (s .target .now) (s .bits .now) (s .ws .now) _ _ (w .ensures) whole room in
-    let rows = rw answer at (sym (c .before .before .before .before .before .before .before .before .before .before .before .before .before .is-accepted .ensures) ∙ not-false _ (c .before .before .before .before .before .before .before .before .before .before .before .before .if4 .left)) in
+    let rows = rw answer at (sym (at-is-accepted .is-accepted .ensures) ∙ not-false _ (else4 .if4 .left)) in
     let front = widths-front (s .target .now) (s .bits .now) (s .ws .now) _ _ (w .ensures) whole room rows _ count in
-    let given = rw front at (c .before .before .before .before .before .before .before .before .before .before .given-answer .ensures) in
-    let words = rw given at (sym (c .before .before .before .before .before .before .before .before .before .is-accepted2 .ensures) ∙ not-true _ (c .before .before .before .before .before .before .before .before .if5 .taken)) in
-    rw (c .before .before .before .before .before .before .clear2 .ensures, w .kept .1 .1 .0, c .before .before .clear3 .ensures, given) (sym (values-given (s .target .now) (s .bits .now) (s .given .now) (s .ws .now) (s .vs .now) whole room room-too rows words))
+    let given = rw front at (at-given-answer .given-answer .ensures) in
+    let words = rw given at (sym (at-is-accepted2 .is-accepted2 .ensures) ∙ not-true _ (then5 .if5 .taken)) in
+    rw (at-clear2 .clear2 .ensures, w .kept .1 .1 .0, c .before .before .clear3 .ensures, given) (sym (values-given (s .target .now) (s .bits .now) (s .given .now) (s .ws .now) (s .vs .now) whole room room-too rows words))
 
 slice-reshare-prefix-evaluate : tie.Need-slice-reshare-prefix-evaluate
 slice-reshare-prefix-evaluate c = search needs
@@ -128,17 +158,28 @@ slice-aggregate-evaluate c = sym (length-take-le _ _ (omega (arith, c .before .b
 
 evaluate-requires : tie.Need-evaluate-requires
 evaluate-requires c κs =
-    let s = c .before .before .before .before .before .before .before .before .before .before .before .before .before .before .before .before .before .before .before .before .before .before .args in
-    let count = c .before .before .before .before .before .before .before .before .before .before .before .before .before .before .row-count .ensures in
-    let whole = sym (c .before .before .before .before .before .before .before .before .before .before .before .before .before .before .before .before .is-ragged .ensures) ∙ c .before .before .before .before .before .before .before .before .before .before .before .before .before .before .before .if1 .left in
-    let room = rw count at (c .before .before .before .before .before .before .before .before .before .before .before .before .before .if2 .left) in
-    let room-too = rw count at (c .before .before .before .before .before .before .before .before .before .before .before .before .if3 .left) in
-    let w = c .before .before .before .before .before .before .before .before .before .before .target-widths in
+    let at-is-accepted2 = c .before .before .before in
+    let at-given-answer = at-is-accepted2 .before in
+    let else4 = at-given-answer .before .before in
+    let at-is-accepted = else4 .before in
+    let at-target-widths = at-is-accepted .before .before .before in
+    let else3 = at-target-widths .before .before in
+    let else2 = else3 .before in
+    let at-row-count = else2 .before in
+    let else1 = at-row-count .before in
+    let at-is-ragged = else1 .before in
+    let start = at-is-ragged .before .before .before .before .before .before in
+    let s = start .args in
+    let count = at-row-count .row-count .ensures in
+    let whole = sym (at-is-ragged .is-ragged .ensures) ∙ else1 .if1 .left in
+    let room = rw count at (else2 .if2 .left) in
+    let room-too = rw count at (else3 .if3 .left) in
+    let w = at-target-widths .target-widths in
     let answer = widths-answer (s .target .now) (s .bits .now) (s .ws .now) _ _ (w .ensures) whole room in
-    let rows = rw answer at (sym (c .before .before .before .before .before .before .before .is-accepted .ensures) ∙ not-false _ (c .before .before .before .before .before .before .if4 .left)) in
+    let rows = rw answer at (sym (at-is-accepted .is-accepted .ensures) ∙ not-false _ (else4 .if4 .left)) in
     let front = widths-front (s .target .now) (s .bits .now) (s .ws .now) _ _ (w .ensures) whole room rows _ count in
-    let given = rw front at (c .before .before .before .before .given-answer .ensures) in
-    let words = rw given at (sym (c .before .before .before .is-accepted2 .ensures) ∙ not-false _ (c .before .before .if5 .left)) in
+    let given = rw front at (at-given-answer .given-answer .ensures) in
+    let words = rw given at (sym (at-is-accepted2 .is-accepted2 .ensures) ∙ not-false _ (c .before .before .if5 .left)) in
     let many = build-length (rowWidth Target (length (s .bits .now)) [] (s .target .now)) (rowCount Target (s .target .now)) in
     (rw front (evaluable (s .target .now) (s .bits .now) (s .given .now) rows words), rw (front, many) room-too)
 
@@ -153,20 +194,33 @@ same-length-6 c = search needs
 
 returns-6 : tie.Need-returns-6
 returns-6 c =
-    let s = c .before .before .before .before .before .before .before .before .before .before .before .before .before .before .before .before .before .before .before .before .before .before .before .before .before .before .before .before .before .args in
-    let count = c .before .before .before .before .before .before .before .before .before .before .before .before .before .before .before .before .before .before .before .before .before .row-count .ensures in
-    let whole = sym (c .before .before .before .before .before .before .before .before .before .before .before .before .before .before .before .before .before .before .before .before .before .before .before .is-ragged .ensures) ∙ c .before .before .before .before .before .before .before .before .before .before .before .before .before .before .before .before .before .before .before .before .before .before .if1 .left in
-    let room = rw count at (c .before .before .before .before .before .before .before .before .before .before .before .before .before .before .before .before .before .before .before .before .if2 .left) in
-    let room-too = rw count at (c .before .before .before .before .before .before .before .before .before .before .before .before .before .before .before .before .before .before .before .if3 .left) in
-    let w = c .before .before .before .before .before .before .before .before .before .before .before .before .before .before .before .before .before .target-widths in
+    let at-evaluate = c .before .before .before .before .before .before in
+    let else5 = at-evaluate .before .before .before in
+    let at-is-accepted2 = else5 .before in
+    let at-given-answer = at-is-accepted2 .before in
+    let else4 = at-given-answer .before .before in
+    let at-is-accepted = else4 .before in
+    let at-target-widths = at-is-accepted .before .before .before in
+    let else3 = at-target-widths .before .before in
+    let else2 = else3 .before in
+    let at-row-count = else2 .before in
+    let else1 = at-row-count .before in
+    let at-is-ragged = else1 .before in
+    let start = at-is-ragged .before .before .before .before .before .before in
+    let s = start .args in
+    let count = at-row-count .row-count .ensures in
+    let whole = sym (at-is-ragged .is-ragged .ensures) ∙ else1 .if1 .left in
+    let room = rw count at (else2 .if2 .left) in
+    let room-too = rw count at (else3 .if3 .left) in
+    let w = at-target-widths .target-widths in
     let answer = widths-answer (s .target .now) (s .bits .now) (s .ws .now) _ _ (w .ensures) whole room in
-    let rows = rw answer at (sym (c .before .before .before .before .before .before .before .before .before .before .before .before .before .before .is-accepted .ensures) ∙ not-false _ (c .before .before .before .before .before .before .before .before .before .before .before .before .before .if4 .left)) in
+    let rows = rw answer at (sym (at-is-accepted .is-accepted .ensures) ∙ not-false _ (else4 .if4 .left)) in
     let front = widths-front (s .target .now) (s .bits .now) (s .ws .now) _ _ (w .ensures) whole room rows _ count in
-    let given = rw front at (c .before .before .before .before .before .before .before .before .before .before .before .given-answer .ensures) in
-    let words = rw given at (sym (c .before .before .before .before .before .before .before .before .before .before .is-accepted2 .ensures) ∙ not-false _ (c .before .before .before .before .before .before .before .before .before .if5 .left)) in
+    let given = rw front at (at-given-answer .given-answer .ensures) in
+    let words = rw given at (sym (at-is-accepted2 .is-accepted2 .ensures) ∙ not-false _ (else5 .if5 .left)) in
     let many = build-length (rowWidth Target (length (s .bits .now)) [] (s .target .now)) (rowCount Target (s .target .now)) in
-    let v = c .before .before .before .before .before .before .evaluate in
-    ap₂ (out Accepted) (widths-accepted (s .target .now) (s .bits .now) (s .ws .now) _ _ (w .ensures) whole room rows) (c .before .before .clear-from .ensures
+    let v = at-evaluate .evaluate in
+    ap₂ (λ (k l : List ℕ). result Accepted (k ∷ l ∷ [])) (widths-accepted (s .target .now) (s .bits .now) (s .ws .now) _ _ (w .ensures) whole room rows) (c .before .before .clear-from .ensures
     ∙ values-list (s .target .now) (s .bits .now) (s .given .now) (s .vs .now) _ _ _ count (ap length front ∙ many) (v .kept .1 .1 .1 .1 .0) (v .ensures))
     ∙ sym (values-accepted (s .target .now) (s .bits .now) (s .given .now) (s .ws .now) (s .vs .now) whole room room-too rows words)
 

@@ -1,4 +1,4 @@
--- `values::word_bad` meets its contract. Assumes nothing.
+-- A variable by its tag, then whether its word fits. Assumes nothing.
 use Prim.Native.Nat.{_-_}
 use mathlib.Core.Path.{ap}
 use mathlib.Core.Bool.{not}

@@ -1,4 +1,4 @@
--- `widths::roots` meets its contract. Assumes nothing.
+-- The first bad root's position, or none. Assumes nothing.
 use borrow.Author.Tests.{lt-ltb, le-ltb}
 use borrow.Author.Needs.{needs}
 use Rattle.widths.proofs.roots.Statement.{statement}

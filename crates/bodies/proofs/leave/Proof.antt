@@ -1,0 +1,55 @@
+-- Zeros throughout, or from the place after the last word on. Assumes nothing.
+use mathlib.Core.Path.{_≡_}
+use mathlib.Core.Bool.{true, false}
+use Prim.Native.Nat.{_≤_}
+use lib.ListN.{length}
+use borrow.Author.Tests.{not-true, not-false}
+use Rattle.book.specs.Book.{sections}
+use Rattle.bodies.specs.Words.{loaded}
+use Rattle.bodies.proofs.Words.{words-inside, words-cleared}
+use borrow.Author.Needs.{needs}
+use Rattle.bodies.proofs.leave.Statement.{statement}
+use Rattle.bodies.proofs.leave.Tie as tie
+
+clear-requires : tie.Need-clear-requires
+clear-requires c κs = search needs
+
+same-length : tie.Need-same-length
+same-length c = search needs
+
+returns : tie.Need-returns
+returns c =
+    let t = c .before .before .before .before in
+    let k : t .before .before .before .args .kept ≡ false = not-true _ (t .if1 .taken) in
+    rw k (c .before .before .clear .ensures)
+
+offset-requires : tie.Need-offset-requires
+offset-requires c κs = search needs
+
+clear-from-requires : tie.Need-clear-from-requires
+clear-from-requires c κs =
+    let s = c .before .before .before .before .before in
+    let h : length (loaded (s .args .book .now) sections) ≤ length (s .args .words .now) = words-inside (s .args .book .now) (s .args .words .now) (s .pre .1) in
+    rw (c .offset .ensures) h
+
+same-length-2 : tie.Need-same-length-2
+same-length-2 c = search needs
+
+returns-2 : tie.Need-returns-2
+returns-2 c =
+    let t = c .before .before .before .before .before in
+    let s = t .before .before .before in
+    let k : s .args .kept ≡ true = not-false _ (t .if1 .left) in
+    rw k (words-cleared (loaded (s .args .book .now) sections) _ (s .args .words .now) _ _ (s .pre .1) (c .before .before .before .offset .ensures) (c .before .before .clear-from .ensures))
+
+pub leave-spec : {M : Type 1} → statement M
+leave-spec =
+    tie.close
+    (tie.spec
+    clear-requires
+    same-length
+    returns
+    offset-requires
+    clear-from-requires
+    same-length-2
+    returns-2)

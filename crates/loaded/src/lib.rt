@@ -1,0 +1,69 @@
+// Check on the lists that a book of good shape holds, once its words stand in a list.
+ghost use mathlib.Core.Path.{_≡_};
+ghost use mathlib.Core.List.{_++_};
+ghost use lib.Dec.{ltb};
+ghost use lib.ListN.{length, drop};
+ghost use Rattle.book.specs.Book.{sections};
+ghost use Rattle.book.specs.Good.{Good};
+ghost use Rattle.bodies.specs.Words.{loaded};
+ghost use Rattle.answers.specs.Answer.{andThen};
+ghost use Rattle.answers.specs.declared.Answer.the-variants.{WorkShort};
+ghost use Rattle.lowering.specs.Check.{outcome, check, refuse, firstRefusal, countAnswers};
+ghost use Rattle.loaded.specs.Held.{held, bookWords};
+use answers::Answer;
+
+// 15 and 18, with room for some words in each of the five lists.
+pub fn room_answer(book: &[u8], w0: usize, w1: usize, c: usize, e: usize, room: usize) -> Answer
+    requires { ⌜ Good (now book) ⌝ }
+    ensures answer { λ r. ⌜ r ≡ andThen (firstRefusal (countAnswers (held (now (book .entry)) .source) (held
+        (now (book .entry)) .target) w0 w1 c e)) (refuse (ltb room (length (bookWords (now (book .entry))))) (WorkShort 5)) ⌝ }
+{
+    let a = forms::count_answer(
+        bodies::word_count(book, 0),
+        bodies::word_count(book, 8),
+        w0,
+        w1,
+        c,
+        e,
+    );
+    if !answers::is_accepted(a) {
+        return a;
+    }
+    if room < bodies::offset(book, book::SECTIONS) {
+        return Answer::WorkShort(5);
+    }
+    Answer::Accepted
+}
+
+// Check on the lists of a book whose words stand in a list.
+pub fn check_loaded(
+    book: &[u8],
+    words: &[u64],
+    ws0: &mut [u64],
+    ws1: &mut [u64],
+    cls: &mut [u64],
+    ent: &mut [u64],
+) -> Answer
+    requires { ⌜ Good (now book) ⌝ }
+    requires { ⌜ now words ≡ loaded (now book) sections ++ drop (length (loaded (now book) sections)) (now words) ⌝ }
+    ensures outcome { λ r. ⌜ outcome r (now (ws0 .exit)) (now (ws1 .exit)) (now (cls .exit)) (now (ent .exit)) ≡ check (held (now (book .entry)))
+        (now (ws0 .entry)) (now (ws1 .entry)) (now (cls .entry)) (now (ent .entry)) ⌝ }
+{
+    checker::check(
+        bodies::list_at(book, words, 0),
+        book::body(book, 1),
+        bodies::list_at(book, words, 2),
+        bodies::list_at(book, words, 3),
+        bodies::list_at(book, words, 4),
+        bodies::list_at(book, words, 5),
+        bodies::list_at(book, words, 6),
+        bodies::list_at(book, words, 7),
+        bodies::list_at(book, words, 8),
+        book::body(book, 9),
+        bodies::list_at(book, words, 10),
+        ws0,
+        ws1,
+        cls,
+        ent,
+    )
+}
