@@ -1,6 +1,7 @@
 -- What a source row's tag word says of its answer and classes, and what its form promises. Assumes nothing.
 use Prim.Native.Nat.{ℕ, _+_, _<_, _≤_}
 use mathlib.Core.Path.{_≡_, refl, sym, ap, _∙_}
+use mathlib.Core.Bool.{Bool, true, false}
 use mathlib.Core.List.{List}
 use lib.ListN.{getD, set}
 use Rattle.answers.specs.declared.Answer.{Answer}
