@@ -1,11 +1,16 @@
 -- Invariant: the nest that is left, from row cur with l + 1 equalities, says what the whole says. Assumes nothing.
 use Prim.Native.Nat.{_<_, _-_, _+_}
 use mathlib.Core.Path.{_≡_, refl, _∙_, sym}
+use mathlib.Core.Bool.{true}
 use native.Mathlib.Nat.{add-zero}
 use native.Mathlib.Omega.{arith}
 use borrow.Author.Needs.{needs}
 use borrow.Author.Tests.{eq-eqb, ne-eqb, not-true, not-false}
+use lib.Dec.{eqb}
 use lib.ListN.{getD}
+use Rattle.rows.specs.declared.Graph.the-variants.{Target}
+use Rattle.rows.specs.Row.{rowCount}
+use Rattle.lowering.specs.Images.{tagAt}
 use Rattle.lowering.specs.Roots.{allEqual}
 use Rattle.leads.proofs.Shape.{all-out}
 use Rattle.congruence.proofs.Nest.{all-one, all-tag, all-last, all-rest}
@@ -20,6 +25,17 @@ Inv-loop target cargs sp sq k a n cur₀ l₀ cur l =
 abbrev μ-loop : tie.MeasureT-loop
 μ-loop target cargs sp sq k a n cur₀ l₀ cur l = l
 
+abbrev start : tie.At-loop Inv-loop μ-loop → tie.Start Inv-loop μ-loop
+start a = a .before .before .before .before
+
+-- the tests that have passed in the loop
+inside : (c : tie.Else1 Inv-loop μ-loop) → let a = c .before .before in a .loop .cur < rowCount Target (start a .args .target .now)
+inside c = rw (c .before .before .before .row-count .ensures) at (c .if1 .left)
+
+is-and : (c : tie.Else2 Inv-loop μ-loop)
+    → let a = c .before .before .before .before in eqb (tagAt (start a .args .target .now) (a .loop .cur)) 30 ≡ true
+is-and c = eq-eqb _ _ (rw (c .before .row .ensures) at (c .if2 .left))
+
 row-count-requires : tie.Need-row-count-requires Inv-loop μ-loop
 row-count-requires c κs = search needs
 
@@ -30,7 +46,9 @@ loop-holds : tie.Need-loop-holds Inv-loop μ-loop
 loop-holds c = (omega arith, refl)
 
 returns : tie.Need-returns Inv-loop μ-loop
-returns c = sym (c .before .before .loop .inv .1 ∙ all-out _ _ _ (c .before .before .loop .l) (c .before .before .loop .cur) (rw (c .before .before .before .row-count .ensures) at (c .if1 .taken)))
+returns c =
+    let a = c .before .before in
+    sym (a .loop .inv .1 ∙ all-out _ _ _ (a .loop .l) (a .loop .cur) (rw (a .before .row-count .ensures) at (c .if1 .taken)))
 
 row-requires : tie.Need-row-requires Inv-loop μ-loop
 row-requires c κs = search needs
@@ -40,9 +58,11 @@ array-read-if2 c = search needs
 
 returns-2 : tie.Need-returns-2 Inv-loop μ-loop
 returns-2 c =
+    let else1 = c .before .before in
+    let a = else1 .before .before in
     sym
-    (c .before .before .before .before .loop .inv .1
-    ∙ all-tag _ _ _ (c .before .before .before .before .loop .l) (c .before .before .before .before .loop .cur) (c .before .before .before .loop-test .taken) (rw (c .before .before .before .before .before .row-count .ensures) at (c .before .before .if1 .left)) (ne-eqb _ _ (rw (c .before .row .ensures) at (c .if2 .taken))))
+    (a .loop .inv .1
+    ∙ all-tag _ _ _ (a .loop .l) (a .loop .cur) (else1 .before .loop-test .taken) (inside else1) (ne-eqb _ _ (rw (c .before .row .ensures) at (c .if2 .taken))))
 
 add-is-eq : tie.Need-add-is-eq Inv-loop μ-loop
 add-is-eq c = search needs
@@ -70,10 +90,13 @@ is-eq-requires c κs = search needs
 
 returns-3 : tie.Need-returns-3 Inv-loop μ-loop
 returns-3 c =
+    let else2 = c .before .before .before .before in
+    let else1 = else2 .before .before in
+    let a = else1 .before .before in
     sym
-    (c .before .before .before .before .before .before .before .before .loop .inv .1
-    ∙ all-last _ _ _ (c .before .before .before .before .before .before .before .before .loop .l) (c .before .before .before .before .before .before .before .before .loop .cur) (c .before .before .before .before .before .before .before .loop-test .taken) (rw (c .before .before .before .before .before .before .before .before .before .row-count .ensures) at (c .before .before .before .before .before .before .if1 .left)) (eq-eqb _ _ (rw (c .before .before .before .before .before .row .ensures) at (c .before .before .before .before .if2 .left)))
-    (rw (c .before .before .before .before .before .row .ensures) at (sym (c .before .is-eq .ensures) ∙ not-true _ (c .if3 .taken))))
+    (a .loop .inv .1
+    ∙ all-last _ _ _ (a .loop .l) (a .loop .cur) (else1 .before .loop-test .taken) (inside else1) (is-and else2)
+    (rw (else2 .before .row .ensures) at (sym (c .before .is-eq .ensures) ∙ not-true _ (c .if3 .taken))))
 
 array-read-cur : tie.Need-array-read-cur Inv-loop μ-loop
 array-read-cur c = search needs
@@ -85,13 +108,16 @@ loop-less : tie.Need-loop-less Inv-loop μ-loop
 loop-less c = omega arith
 
 loop-again : tie.Need-loop-again Inv-loop μ-loop
-loop-again c = (
-  omega arith,
-  c .before .before .before .before .before .before .before .before .loop .inv .1
-      ∙ all-rest _ _ _ (c .before .before .before .before .before .before .before .before .loop .l) (c .before .before .before .before .before .before .before .before .loop .cur) (c .before .before .before .before .before .before .before .loop-test .taken) (rw (c .before .before .before .before .before .before .before .before .before .row-count .ensures) at (c .before .before .before .before .before .before .if1 .left)) (eq-eqb _ _ (rw (c .before .before .before .before .before .row .ensures) at (c .before .before .before .before .if2 .left)))
-      (rw (c .before .before .before .before .before .row .ensures) at (sym (c .before .is-eq .ensures) ∙ not-false _ (c .if3 .left)))
-      ∙ rw (c .before .before .before .before .before .row .ensures),
-)
+loop-again c =
+    let else2 = c .before .before .before .before in
+    let else1 = else2 .before .before in
+    let a = else1 .before .before in (
+      omega arith,
+      a .loop .inv .1
+          ∙ all-rest _ _ _ (a .loop .l) (a .loop .cur) (else1 .before .loop-test .taken) (inside else1) (is-and else2)
+          (rw (else2 .before .row .ensures) at (sym (c .before .is-eq .ensures) ∙ not-false _ (c .if3 .left)))
+          ∙ rw (else2 .before .row .ensures),
+    )
 
 mul-is-eq-3 : tie.Need-mul-is-eq-3 Inv-loop μ-loop
 mul-is-eq-3 c = search needs
@@ -110,8 +136,8 @@ is-eq-requires-2 c κs = search needs
 
 returns-4 : tie.Need-returns-4 Inv-loop μ-loop
 returns-4 c =
-    c .is-eq2 .ensures
-    ∙ sym (c .before .before .before .before .loop .inv .1 ∙ all-one _ _ _ (c .before .before .before .before .loop .l) (c .before .before .before .before .loop .cur) (c .before .before .before .loop-test .left) ∙ simp add-zero)
+    let a = c .before .before .before .before in
+    c .is-eq2 .ensures ∙ sym (a .loop .inv .1 ∙ all-one _ _ _ (a .loop .l) (a .loop .cur) (c .before .before .before .loop-test .left) ∙ simp add-zero)
 
 pub ante-ok-spec : {M : Type 1} → statement M
 ante-ok-spec =

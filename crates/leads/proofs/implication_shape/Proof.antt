@@ -1,11 +1,38 @@
 -- Each test in its turn; where one fails the answer is MAX. Assumes nothing.
-use mathlib.Core.Path.{_∙_, sym}
+use mathlib.Core.Path.{_≡_, _∙_, sym}
+use mathlib.Core.Bool.{true}
 use borrow.Author.Needs.{needs}
 use borrow.Author.Tests.{lt-ltb, le-ltb, eq-eqb, ne-eqb, not-true, not-false}
+use lib.Dec.{eqb, ltb}
 use Rattle.lists.specs.Tests.{all}
+use Rattle.rows.specs.declared.Graph.the-variants.{Target}
+use Rattle.rows.specs.Row.{rowCount}
+use Rattle.lowering.specs.Images.{tagAt, fieldAt}
+use Rattle.lowering.specs.Matching.{isEq}
 use Rattle.leads.specs.Shape.{implies}
 use Rattle.leads.proofs.implication_shape.Statement.{statement}
 use Rattle.leads.proofs.implication_shape.Tie as tie
+
+abbrev start : tie.Else1 → tie.Start
+start c = c .before .before .before
+
+-- the tests that have passed
+in-range : (c : tie.Else1) → let s = start c .args in ltb (s .root) (rowCount Target (s .target .now)) ≡ true
+in-range c = lt-ltb _ _ (rw (c .before .row-count .ensures) at (c .if1 .left))
+
+is-or : (c : tie.Else2) → let s = start (c .before .before) .args in eqb (tagAt (s .target .now) (s .root)) 31 ≡ true
+is-or c = eq-eqb _ _ (rw (c .before .row .ensures) at (c .if2 .left))
+
+equates : (c : tie.Else3)
+    → let s = start (c .before .before .before .before) .args in isEq (s .target .now) (s .vp) (s .vq) (fieldAt (s .target .now) (s .root) 2) ≡ true
+equates c = rw (c .before .before .before .row .ensures) at (sym (c .before .is-eq .ensures) ∙ not-false _ (c .if3 .left))
+
+under : (c : tie.Else4)
+    → let s = start (c .before .before .before .before .before) .args in
+    ltb (fieldAt (s .target .now) (s .root) 1) (rowCount Target (s .target .now)) ≡ true
+under c =
+    let at-row = c .before .before .before .before in
+    lt-ltb _ _ (rw (at-row .row .ensures, at-row .before .before .row-count .ensures) at (c .if4 .left))
 
 row-count-requires : tie.Need-row-count-requires
 row-count-requires c κs = search needs
@@ -22,11 +49,7 @@ array-read-if2 c = search needs
 
 returns-2 : tie.Need-returns-2
 unfolding implies all
-returns-2 c =
-    rw (
-      lt-ltb _ _ (rw (c .before .before .before .row-count .ensures) at (c .before .before .if1 .left)),
-      ne-eqb _ _ (rw (c .before .row .ensures) at (c .if2 .taken)),
-    )
+returns-2 c = rw (in-range (c .before .before), ne-eqb _ _ (rw (c .before .row .ensures) at (c .if2 .taken)))
 
 array-read-is-eq : tie.Need-array-read-is-eq
 array-read-is-eq c = search needs
@@ -37,10 +60,11 @@ is-eq-requires c κs = search needs
 returns-3 : tie.Need-returns-3
 unfolding implies all
 returns-3 c =
+    let else2 = c .before .before in
     rw (
-      lt-ltb _ _ (rw (c .before .before .before .before .before .row-count .ensures) at (c .before .before .before .before .if1 .left)),
-      eq-eqb _ _ (rw (c .before .before .before .row .ensures) at (c .before .before .if2 .left)),
-      rw (c .before .before .before .row .ensures) at (sym (c .before .is-eq .ensures) ∙ not-true _ (c .if3 .taken)),
+      in-range (else2 .before .before),
+      is-or else2,
+      rw (else2 .before .row .ensures) at (sym (c .before .is-eq .ensures) ∙ not-true _ (c .if3 .taken)),
     )
 
 array-read-if4 : tie.Need-array-read-if4
@@ -49,11 +73,14 @@ array-read-if4 c = search needs
 returns-4 : tie.Need-returns-4
 unfolding implies all
 returns-4 c =
+    let else3 = c .before in
+    let else2 = else3 .before .before in
+    let else1 = else2 .before .before in
     rw (
-      lt-ltb _ _ (rw (c .before .before .before .before .before .before .row-count .ensures) at (c .before .before .before .before .before .if1 .left)),
-      eq-eqb _ _ (rw (c .before .before .before .before .row .ensures) at (c .before .before .before .if2 .left)),
-      rw (c .before .before .before .before .row .ensures) at (sym (c .before .before .is-eq .ensures) ∙ not-false _ (c .before .if3 .left)),
-      le-ltb _ _ (rw (c .before .before .before .before .row .ensures, c .before .before .before .before .before .before .row-count .ensures) at (c .if4 .taken)),
+      in-range else1,
+      is-or else2,
+      equates else3,
+      le-ltb _ _ (rw (else2 .before .row .ensures, else1 .before .row-count .ensures) at (c .if4 .taken)),
     )
 
 array-read-row : tie.Need-array-read-row
@@ -68,12 +95,15 @@ array-read-if5 c = search needs
 returns-5 : tie.Need-returns-5
 unfolding implies all
 returns-5 c =
+    let else4 = c .before .before in
+    let else3 = else4 .before in
+    let else2 = else3 .before .before in
     rw (
-      lt-ltb _ _ (rw (c .before .before .before .before .before .before .before .before .row-count .ensures) at (c .before .before .before .before .before .before .before .if1 .left)),
-      eq-eqb _ _ (rw (c .before .before .before .before .before .before .row .ensures) at (c .before .before .before .before .before .if2 .left)),
-      rw (c .before .before .before .before .before .before .row .ensures) at (sym (c .before .before .before .before .is-eq .ensures) ∙ not-false _ (c .before .before .before .if3 .left)),
-      lt-ltb _ _ (rw (c .before .before .before .before .before .before .row .ensures, c .before .before .before .before .before .before .before .before .row-count .ensures) at (c .before .before .if4 .left)),
-      ne-eqb _ _ (rw (c .before .row2 .ensures, c .before .before .before .before .before .before .row .ensures) at (c .if5 .taken)),
+      in-range (else2 .before .before),
+      is-or else2,
+      equates else3,
+      under else4,
+      ne-eqb _ _ (rw (c .before .row2 .ensures, else2 .before .row .ensures) at (c .if5 .taken)),
     )
 
 array-read-result : tie.Need-array-read-result
@@ -82,14 +112,17 @@ array-read-result c = search needs
 returns-6 : tie.Need-returns-6
 unfolding implies all
 returns-6 c =
+    let else4 = c .before .before in
+    let else3 = else4 .before in
+    let else2 = else3 .before .before in
     rw (
-      lt-ltb _ _ (rw (c .before .before .before .before .before .before .before .before .row-count .ensures) at (c .before .before .before .before .before .before .before .if1 .left)),
-      eq-eqb _ _ (rw (c .before .before .before .before .before .before .row .ensures) at (c .before .before .before .before .before .if2 .left)),
-      rw (c .before .before .before .before .before .before .row .ensures) at (sym (c .before .before .before .before .is-eq .ensures) ∙ not-false _ (c .before .before .before .if3 .left)),
-      lt-ltb _ _ (rw (c .before .before .before .before .before .before .row .ensures, c .before .before .before .before .before .before .before .before .row-count .ensures) at (c .before .before .if4 .left)),
-      eq-eqb _ _ (rw (c .before .row2 .ensures, c .before .before .before .before .before .before .row .ensures) at (c .if5 .left)),
+      in-range (else2 .before .before),
+      is-or else2,
+      equates else3,
+      under else4,
+      eq-eqb _ _ (rw (c .before .row2 .ensures, else2 .before .row .ensures) at (c .if5 .left)),
       c .before .row2 .ensures,
-      c .before .before .before .before .before .before .row .ensures,
+      else2 .before .row .ensures,
     )
 
 pub implication-shape-spec : {M : Type 1} → statement M
