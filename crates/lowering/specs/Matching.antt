@@ -42,8 +42,9 @@ walk S map target j zero s r = RanOut r
 walk S map target j (suc k) s r =
     let p = getD (S .side) s 0 in
     let v = getD (S .side) (s + 1) 0 in
-    cond (bothConst (rowAt Source (S .rows) p) (rowAt Source (S .rows) j))
-    (cond (sameConst (S .bits) (rowAt Source (S .rows) p) (S .bits) (rowAt Source (S .rows) j)) (Met r v) (walk S map target j k (s + 2) r))
+    let row = rowAt Source (S .rows) in
+    cond (bothConst (row p) (row j))
+    (cond (sameConst (S .bits) (row p) (S .bits) (row j)) (Met r v) (walk S map target j k (s + 2) r))
     (cond (isLevel target (mapAt map p) (mapAt map j) (mapAt map v) r) (walk S map target j k (s + 2) (fieldAt target r 3)) Lost)
 
 -- what is noted of the target's rows: "Each target row has a class", and an entry's variable its "word offset in its table, else 0"

@@ -8,7 +8,7 @@ use lib.Dec.{eqb}
 use lib.ListN.{length, getD}
 use Rattle.rows.specs.declared.Graph.the-variants.{Source, Target}
 use Rattle.rows.specs.declared.Node.{Node}
-use Rattle.rows.specs.declared.Node.the-variants.{Var, Const, Un, Bin, Extract, Extend, Ite, Select, Call, Unknown}
+use Rattle.rows.specs.declared.Node.the-variants.{Var}
 use Rattle.rows.specs.Row.{rowAt}
 use Rattle.rows.specs.Tags.{tVar}
 use Rattle.rows.specs.Node.{nodeOf, operands}
@@ -19,7 +19,7 @@ use Rattle.lowering.specs.declared.Walk.{Walk}
 use Rattle.lowering.specs.declared.Walk.the-variants.{RanOut, Met, Lost}
 use Rattle.lowering.specs.Images.{mapAt, unequalConst}
 use Rattle.lowering.specs.Tables.{readCount, readVar, readArray, readIndex, callCount, callVar, callFunction, argCount, callArg, sameFunction}
-use Rattle.lowering.specs.Matching.{walk, mappedArg}
+use Rattle.lowering.specs.Matching.{walk, mappedArg, Kind, var, const, core, select, call, unknown, kindOf}
 use Rattle.lowering.specs.Roots.{congruent}
 use Rattle.lowering.specs.Lowering.{Lowering, sourceRows, targetRows}
 use Rattle.lowering.specs.Check.{widthsOfSource, widthsOfTarget}
@@ -87,18 +87,17 @@ module _ (L : Lowering) where
   abbrev pub walkOf : ℕ → ℕ → ℕ → ℕ → Walk
   walkOf j k s r = walk (L .source) (L .map) (L .target .rows) j k s r
 
-  -- what is found at the image of row i, by its node
+  -- what is found at the image of row i, by its kind
+  abbrev FoundBy : ℕ → Node → Kind → Type 0
+  FoundBy i node (var w) = T (m i) ≡ Var w
+  FoundBy i node const = SameCore node (T (m i))
+  FoundBy i node (core c) = SameCore node (T (m i))
+  FoundBy i node (select a j s k) = Ends a j (walkOf j k s (m i))
+  FoundBy i node (call f w s k) = (T (m i) ≡ Var w) × ((q : ℕ) × CallOf q (m i) f k (mappedArg (L .map) (L .source .side) s))
+  FoundBy i node unknown = ⊥
+
   abbrev pub Found : ℕ → Node → Type 0
-  Found i (Var w) = T (m i) ≡ Var w
-  Found i (Const s w) = SameCore (Const s w) (T (m i))
-  Found i (Un t a) = SameCore (Un t a) (T (m i))
-  Found i (Bin t a b) = SameCore (Bin t a b) (T (m i))
-  Found i (Extract h l a) = SameCore (Extract h l a) (T (m i))
-  Found i (Extend t a n) = SameCore (Extend t a n) (T (m i))
-  Found i (Ite c t e) = SameCore (Ite c t e) (T (m i))
-  Found i (Select a j s k) = Ends a j (walkOf j k s (m i))
-  Found i (Call f w s k) = (T (m i) ≡ Var w) × ((q : ℕ) × CallOf q (m i) f k (mappedArg (L .map) (L .source .side) s))
-  Found i Unknown = ⊥
+  Found i node = FoundBy i node (kindOf node)
 
   -- a read entry: its variable is a row of the array's cell width, its index an image of the array's index width
   pub record ReadEntry (q : ℕ) : Type 0 where
