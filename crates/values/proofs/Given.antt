@@ -24,7 +24,7 @@ use Rattle.value.proofs.Tagged.{core-rows, node-var}
 use Rattle.wf.specs.Widths.{illRow, widths, rowWidth}
 use Rattle.wf.proofs.Promise.{well-formed}
 use Rattle.refusals.specs.Rows.{rowsAnswer}
-use Rattle.values.specs.Values.{rowWide, wideRow, wordBad, badWord, givenAnswer}
+use Rattle.inputs.specs.Inputs.{rowWide, wideRow, wordBad, badWord, givenAnswer}
 
 -- an accepted answer failed each of its tests
 pub rows-tests : (p q r : Bool) (a b d row : ℕ) → isAccepted (cond p (BadRow a d) (cond q (BadBit b d) (cond r (Core row) Accepted))) ≡ true

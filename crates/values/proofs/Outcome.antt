@@ -20,7 +20,8 @@ use Rattle.encoding.specs.Encoding.{badRow, badBit}
 use Rattle.wf.specs.Widths.{illRow, widths, rowWidth}
 use Rattle.refusals.specs.Rows.{rowsAnswer}
 use Rattle.values.proofs.Given.{given-tests}
-use Rattle.values.specs.Values.{wideRow, badWord, givenAnswer, valuesAnswer, values}
+use Rattle.inputs.specs.Inputs.{wideRow, badWord, givenAnswer}
+use Rattle.values.specs.Values.{valuesAnswer, values}
 
 -- a refusal for the rows, and one for the words given, zero a list
 pub rows-zero : (p q r : Bool) (a b d row : ℕ) (old new : List ℕ)

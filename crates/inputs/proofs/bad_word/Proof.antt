@@ -7,9 +7,9 @@ use borrow.Author.Count.{below-more}
 use borrow.Author.Needs.{needs}
 use lib.ListN.{length}
 use Rattle.lists.proofs.First.{first-at, first-past}
-use Rattle.values.specs.Values.{wordBad}
-use Rattle.values.proofs.bad_word.Statement.{statement}
-use Rattle.values.proofs.bad_word.Tie as tie
+use Rattle.inputs.specs.Inputs.{wordBad}
+use Rattle.inputs.proofs.bad_word.Statement.{statement}
+use Rattle.inputs.proofs.bad_word.Tie as tie
 
 abbrev Inv-loop : tie.InvT-loop
 Inv-loop g given i₀ i = (i ≤ length given) × ((j : ℕ) → j < i → wordBad g given j ≡ false)

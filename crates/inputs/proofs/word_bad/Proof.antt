@@ -5,8 +5,8 @@ use mathlib.Core.Bool.{not}
 use borrow.Author.Needs.{needs}
 use borrow.Author.Tests.{eq-eqb, ne-eqb}
 use borrow.Author.Needs.{needs}
-use Rattle.values.proofs.word_bad.Statement.{statement}
-use Rattle.values.proofs.word_bad.Tie as tie
+use Rattle.inputs.proofs.word_bad.Statement.{statement}
+use Rattle.inputs.proofs.word_bad.Tie as tie
 
 array-read-if1 : tie.Need-array-read-if1
 array-read-if1 c = search needs

@@ -2,8 +2,8 @@
 use mathlib.Core.Path.{sym}
 use borrow.Author.Tests.{lt-ltb, le-ltb, eq-eqb, ne-eqb}
 use borrow.Author.Needs.{needs}
-use Rattle.values.proofs.given_answer.Statement.{statement}
-use Rattle.values.proofs.given_answer.Tie as tie
+use Rattle.inputs.proofs.given_answer.Statement.{statement}
+use Rattle.inputs.proofs.given_answer.Tie as tie
 
 too-wide-requires : tie.Need-too-wide-requires
 too-wide-requires c κs = search needs

@@ -8,9 +8,9 @@ use borrow.Author.Needs.{needs}
 use borrow.Author.Tests.{lt-ltb, le-ltb}
 use lib.ListN.{length}
 use Rattle.lists.proofs.First.{first-at, first-past}
-use Rattle.values.specs.Values.{rowWide}
-use Rattle.values.proofs.too_wide.Statement.{statement}
-use Rattle.values.proofs.too_wide.Tie as tie
+use Rattle.inputs.specs.Inputs.{rowWide}
+use Rattle.inputs.proofs.too_wide.Statement.{statement}
+use Rattle.inputs.proofs.too_wide.Tie as tie
 
 abbrev Inv-loop : tie.InvT-loop
 Inv-loop ws i₀ i = (i ≤ length ws) × ((j : ℕ) → j < i → rowWide ws j ≡ false)
