@@ -23,6 +23,19 @@ input c =
     lowering (s .source .now) (s .ebits .now) (s .eside .now) (s .eroots .now) (s .map .now) (s .reads .now) (s .calls .now) (s .cargs .now) (s .target .now)
     (s .tbits .now) (s .troots .now)
 
+-- the place of the stage before: the forms', the counts', and the start
+abbrev formed : tie.After-lowered → tie.Else2
+formed c = c .before .before .before .before .before
+
+abbrev graphed : tie.Else2 → tie.After-graphs
+graphed c = c .before .before .before .before .before .before
+
+abbrev counted : tie.After-graphs → tie.Else1
+counted c = c .before .before .before
+
+abbrev entry : tie.After-graphs → tie.Start
+entry c = start (counted c .before .before)
+
 -- the counts pass, and the forms
 counts-pass : (c : tie.Else1)
     → (let at-start = start (c .before .before) in
@@ -32,7 +45,7 @@ counts-pass c =
     let L = input (start (c .before .before)) in
     rw (c .before .before .count-answer .ensures (L .source) (L .target) refl refl) at (sym (c .before .is-accepted .ensures) ∙ not-false _ (c .if1 .left))
 
-forms-accepted : (c : tie.Else2) → isAccepted (c .before .before .before .before .before .before .graphs .result) ≡ true
+forms-accepted : (c : tie.Else2) → isAccepted (graphed c .graphs .result) ≡ true
 forms-accepted c = sym (c .before .is-accepted2 .ensures) ∙ not-false _ (c .if2 .left)
 
 count-answer-requires : tie.Need-count-answer-requires
@@ -82,11 +95,10 @@ returns-2 c =
     let at-then2 = at-clear-all .before .before .before .before .before in
     let at-is-accepted2 = at-then2 .before in
     let at-graphs = at-is-accepted2 .before .before .before .before .before in
-    let at-else1 = at-graphs .before .before .before in
-    let at-start = start (at-else1 .before .before) in
+    let at-start = entry at-graphs in
     let s = at-start .args in
     let L = input at-start in
-    let c1 = counts-pass at-else1 in
+    let c1 = counts-pass (counted at-graphs) in
     let z = at-clear-all .clear-all .ensures in
     let k = at-graphs .graphs in
     by-lists _ _ _ _ _ _ _ _ _ _ (zeros-long _ (length (s .ws0 .now)) _ (z .0) (k .kept .1 .1 .1 .1 .1 .0)) (zeros-long _ (length (s .ws1 .now)) _ (z .1 .0) (k .kept .1 .1 .1 .1 .1 .1 .0)) (z .1 .1 .0) (z .1 .1 .1) (graph-done L (s .ws0 .now) (s .ws1 .now) (s .cls .now) (s .ent .now) _ c1 (k .ensures .0) (sym (at-is-accepted2 .is-accepted2 .ensures) ∙ not-true _ (at-then2 .if2 .taken)))
@@ -96,33 +108,31 @@ row-count-requires c κs = search needs
 
 slice-reshare-prefix-lowered : tie.Need-slice-reshare-prefix-lowered
 slice-reshare-prefix-lowered c =
-    let at-graphs = c .before .before .before .before .before .before .before in
-    let at-else1 = at-graphs .before .before .before in
-    let at-start = start (at-else1 .before .before) in
+    let at-graphs = graphed (c .before) in
+    let at-start = entry at-graphs in
     let s = at-start .args in
     let L = input at-start in
-    let c1 = counts-pass at-else1 in
+    let c1 = counts-pass (counted at-graphs) in
     rw (c .row-count .ensures, at-graphs .graphs .kept .1 .1 .1 .1 .1 .1 .0) (room-1 L (s .ws0 .now) (s .ws1 .now) (s .cls .now) (s .ent .now) c1)
 
 slice-aggregate-lowered : tie.Need-slice-aggregate-lowered
 slice-aggregate-lowered c =
-    let at-graphs = c .before .before .before .before .before .before .before .before in
-    let at-else1 = at-graphs .before .before .before in
-    let at-start = start (at-else1 .before .before) in
+    let at-graphs = graphed (c .before .before) in
+    let at-start = entry at-graphs in
     let s = at-start .args in
     let L = input at-start in
-    let c1 = counts-pass at-else1 in
+    let c1 = counts-pass (counted at-graphs) in
     sym (length-take-le _ _ (rw (c .before .row-count .ensures, at-graphs .graphs .kept .1 .1 .1 .1 .1 .1 .0) (room-1 L (s .ws0 .now) (s .ws1 .now) (s .cls .now) (s .ent .now) c1)))
 
 lowered-requires : tie.Need-lowered-requires
 lowered-requires c κs =
-    let at-graphs = c .before .before .before .before .before .before .before .before .before .before in
-    let at-else1 = at-graphs .before .before .before in
-    let at-start = start (at-else1 .before .before) in
+    let at-else2 = c .before .before .before .before in
+    let at-graphs = graphed at-else2 in
+    let at-start = entry at-graphs in
     let s = at-start .args in
     let L = input at-start in
-    let c1 = counts-pass at-else1 in
-    let ok = forms-accepted (c .before .before .before .before) in
+    let c1 = counts-pass (counted at-graphs) in
+    let ok = forms-accepted at-else2 in
     let g1 = rw (at-graphs .graphs .ensures .0) at ok in
     (forms-formed L (s .ws0 .now) (s .ws1 .now) (s .cls .now) (s .ent .now) g1, (widths-front Target (length (s .tbits .now)) _ [] (s .target .now) _ _ (c .before .before .before .row-count .ensures) (at-graphs .graphs .ensures .1 .1 ok), (room-2 L (s .ws0 .now) (s .ws1 .now) (s .cls .now) (s .ent .now) c1, room-3 L (s .ws0 .now) (s .ws1 .now) (s .cls .now) (s .ent .now) c1)))
 
@@ -150,13 +160,12 @@ returns-3 c =
     let at-then3 = at-clear-all2 .before .before .before .before .before in
     let at-is-accepted3 = at-then3 .before in
     let at-lowered = at-is-accepted3 .before .before .before .before .before in
-    let at-else2 = at-lowered .before .before .before .before .before in
-    let at-graphs = at-else2 .before .before .before .before .before .before in
-    let at-else1 = at-graphs .before .before .before in
-    let at-start = start (at-else1 .before .before) in
+    let at-else2 = formed at-lowered in
+    let at-graphs = graphed at-else2 in
+    let at-start = entry at-graphs in
     let s = at-start .args in
     let L = input at-start in
-    let c1 = counts-pass at-else1 in
+    let c1 = counts-pass (counted at-graphs) in
     let ok = forms-accepted at-else2 in
     let g1 = rw (at-graphs .graphs .ensures .0) at ok in
     let z = at-clear-all2 .clear-all2 .ensures in
@@ -170,24 +179,22 @@ row-count-requires-2 c κs = search needs
 clear-from-requires : tie.Need-clear-from-requires
 clear-from-requires c κs =
     let at-lowered = c .before .before .before .before .before .before .before .before in
-    let at-graphs = at-lowered .before .before .before .before .before .before .before .before .before .before .before in
-    let at-else1 = at-graphs .before .before .before in
-    let at-start = start (at-else1 .before .before) in
+    let at-graphs = graphed (formed at-lowered) in
+    let at-start = entry at-graphs in
     let s = at-start .args in
     let L = input at-start in
-    let c1 = counts-pass at-else1 in
+    let c1 = counts-pass (counted at-graphs) in
     rw (c .row-count2 .ensures, at-graphs .graphs .kept .1 .1 .1 .1 .1 .0) (room-0 L (s .ws0 .now) (s .ws1 .now) (s .cls .now) (s .ent .now) c1)
 
 clear-from-requires-2 : tie.Need-clear-from-requires-2
 clear-from-requires-2 c κs =
     let at-cls2 = c .before .before .before .before .before .before .before .before .before .before .before in
     let at-row-count = at-cls2 .before .before .before .before .before in
-    let at-graphs = at-row-count .before .before .before .before .before .before .before in
-    let at-else1 = at-graphs .before .before .before in
-    let at-start = start (at-else1 .before .before) in
+    let at-graphs = graphed (at-row-count .before) in
+    let at-start = entry at-graphs in
     let s = at-start .args in
     let L = input at-start in
-    let c1 = counts-pass at-else1 in
+    let c1 = counts-pass (counted at-graphs) in
     rw (at-row-count .row-count .ensures, at-graphs .graphs .kept .1 .1 .1 .1 .1 .1 .0) (room-1 L (s .ws0 .now) (s .ws1 .now) (s .cls .now) (s .ent .now) c1)
 
 same-length-9 : tie.Need-same-length-9
@@ -210,13 +217,12 @@ returns-4 c =
     let at-is-accepted3 = at-else3 .before in
     let at-lowered = at-is-accepted3 .before .before .before .before .before in
     let at-row-count = at-lowered .before .before .before .before in
-    let at-else2 = at-row-count .before in
-    let at-graphs = at-else2 .before .before .before .before .before .before in
-    let at-else1 = at-graphs .before .before .before in
-    let at-start = start (at-else1 .before .before) in
+    let at-else2 = formed at-lowered in
+    let at-graphs = graphed at-else2 in
+    let at-start = entry at-graphs in
     let s = at-start .args in
     let L = input at-start in
-    let c1 = counts-pass at-else1 in
+    let c1 = counts-pass (counted at-graphs) in
     let ok = forms-accepted at-else2 in
     let g1 = rw (at-graphs .graphs .ensures .0) at ok in
     let k = at-graphs .graphs in

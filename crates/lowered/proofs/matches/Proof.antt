@@ -1,13 +1,15 @@
 -- The stages in their order: each return is the law of its stage over what the calls before it answered and left. Assumes nothing.
 use Prim.Native.Nat.{ℕ}
-use mathlib.Core.Path.{sym, ap, _∙_}
+use mathlib.Core.Path.{_≡_, sym, ap, _∙_}
+use mathlib.Core.Bool.{true}
 use lib.ListN.{length, length-replicate}
 use mathlib.Core.List.{[]}
 use borrow.Author.Tests.{not-true, not-false}
 use Rattle.images.proofs.Constants.{bits-within}
 use Rattle.lists.proofs.Choice.{no-way}
 use Rattle.rows.specs.declared.Graph.the-variants.{Target}
-use Rattle.lowering.specs.Lowering.{Lowering, lowering}
+use Rattle.answers.specs.Answer.{isAccepted}
+use Rattle.lowering.specs.Lowering.{Lowering, lowering, sourceRows}
 use Rattle.lowered.proofs.MatchLaws.{map-3, tables-done, rows-done, dead-done, roots-done, passed-tables, reads-inside, calls-inside}
 use Rattle.wf.specs.Widths.{widths}
 use borrow.Author.Needs.{needs}
@@ -23,6 +25,26 @@ input c =
     let s = c .args in
     lowering (s .source .now) (s .ebits .now) (s .eside .now) (s .eroots .now) (s .map .now) (s .reads .now) (s .calls .now) (s .cargs .now) (s .target .now)
     (s .tbits .now) (s .troots .now)
+
+-- the place of the stage before: the rows', the tables', the map's, and the start
+abbrev rowed : tie.After-ext-rows → tie.Else2
+rowed c = c .before .before .before
+
+abbrev tabled : tie.Else2 → tie.After-entries
+tabled c = c .before .before .before .before .before .before
+
+abbrev mapped : tie.After-entries → tie.Else1
+mapped c = c .before .before .before
+
+abbrev entry : tie.After-entries → tie.Start
+entry c = start (mapped c .before)
+
+-- the map has a word for each row; the tables have passed
+map-fits : (c : tie.After-entries) → (let L = input (entry c) in length (L .map) ≡ sourceRows L)
+map-fits c = mapped c .if1 .left ∙ mapped c .before .row-count .ensures
+
+tables-accepted : (c : tie.Else2) → isAccepted (tabled c .entries .result) ≡ true
+tables-accepted c = sym (c .before .is-accepted .ensures) ∙ not-false _ (c .if2 .left)
 
 row-count-requires : tie.Need-row-count-requires
 row-count-requires c κs = search needs
@@ -52,18 +74,15 @@ same-length-2 c = search needs
 returns-2 : tie.Need-returns-2
 returns-2 c =
     let at-entries = c .before .before .before .before .before .before in
-    let at-else1 = at-entries .before .before .before in
-    let at-row-count = at-else1 .before in
-    let at-start = start at-row-count in
+    let at-start = entry at-entries in
     let p = at-start .pre in
     let L = input at-start in
-    tables-done L _ _ _ (p .1 .0) (p .1 .1 .0) (p .1 .1 .1) _ _ _ (at-entries .entries .ensures .0) (at-entries .entries .ensures .1 .0) (at-entries .entries .ensures .1 .1) (at-else1 .if1 .left ∙ at-row-count .row-count .ensures) (sym (c .before .is-accepted .ensures) ∙ not-true _ (c .if2 .taken))
+    tables-done L _ _ _ (p .1 .0) (p .1 .1 .0) (p .1 .1 .1) _ _ _ (at-entries .entries .ensures .0) (at-entries .entries .ensures .1 .0) (at-entries .entries .ensures .1 .1) (map-fits at-entries) (sym (c .before .is-accepted .ensures) ∙ not-true _ (c .if2 .taken))
 
 ext-rows-requires : tie.Need-ext-rows-requires
 ext-rows-requires c κs =
     let at-entries = c .before .before .before .before .before .before .before .before in
-    let at-row-count = at-entries .before .before .before .before in
-    let at-start = start at-row-count in
+    let at-start = entry at-entries in
     let p = at-start .pre in
     let k = at-entries .entries .kept in
     (p .0, (k .1 .1 .1 .1 .1 .1 .0 ∙ ap length (p .1 .1 .1) ∙ length-replicate {A = ℕ} _ 0, k .1 .1 .1 .1 .1 .0 ∙ ap length (p .1 .1 .0) ∙ length-replicate {A = ℕ} _ 0))
@@ -80,14 +99,11 @@ same-length-4 c = search needs
 returns-3 : tie.Need-returns-3
 returns-3 c =
     let at-else2 = c .before .before .before .before .before .before .before in
-    let at-is-accepted = at-else2 .before in
-    let at-entries = at-is-accepted .before .before .before .before .before in
-    let at-else1 = at-entries .before .before .before in
-    let at-row-count = at-else1 .before in
-    let at-start = start at-row-count in
+    let at-entries = tabled at-else2 in
+    let at-start = entry at-entries in
     let p = at-start .pre in
     let L = input at-start in
-    rows-done L _ _ _ (p .1 .0) (p .1 .1 .0) (p .1 .1 .1) _ _ _ (at-entries .entries .ensures .0) (at-entries .entries .ensures .1 .0) (at-entries .entries .ensures .1 .1) (at-else1 .if1 .left ∙ at-row-count .row-count .ensures) (sym (at-is-accepted .is-accepted .ensures) ∙ not-false _ (at-else2 .if2 .left)) _ _ (c .before .before .before .before .ext-rows .ensures .0) (c .before .before .before .before .ext-rows .ensures .1) (sym (c .before .is-accepted2 .ensures) ∙ not-true _ (c .if3 .taken))
+    rows-done L _ _ _ (p .1 .0) (p .1 .1 .0) (p .1 .1 .1) _ _ _ (at-entries .entries .ensures .0) (at-entries .entries .ensures .1 .0) (at-entries .entries .ensures .1 .1) (map-fits at-entries) (tables-accepted at-else2) _ _ (c .before .before .before .before .ext-rows .ensures .0) (c .before .before .before .before .ext-rows .ensures .1) (sym (c .before .is-accepted2 .ensures) ∙ not-true _ (c .if3 .taken))
 
 dead-entry-requires : tie.Need-dead-entry-requires
 dead-entry-requires c κs = search needs
@@ -101,28 +117,22 @@ same-length-6 c = search needs
 returns-4 : tie.Need-returns-4
 returns-4 c =
     let at-ext-rows = c .before .before .before .before .before .before .before in
-    let at-else2 = at-ext-rows .before .before .before in
-    let at-is-accepted = at-else2 .before in
-    let at-entries = at-is-accepted .before .before .before .before .before in
-    let at-else1 = at-entries .before .before .before in
-    let at-row-count = at-else1 .before in
-    let at-start = start at-row-count in
+    let at-else2 = rowed at-ext-rows in
+    let at-entries = tabled at-else2 in
+    let at-start = entry at-entries in
     let p = at-start .pre in
     let L = input at-start in
-    dead-done L _ _ _ (p .1 .0) (p .1 .1 .0) (p .1 .1 .1) _ _ _ (at-entries .entries .ensures .0) (at-entries .entries .ensures .1 .0) (at-entries .entries .ensures .1 .1) (at-else1 .if1 .left ∙ at-row-count .row-count .ensures) (sym (at-is-accepted .is-accepted .ensures) ∙ not-false _ (at-else2 .if2 .left)) _ _ (at-ext-rows .ext-rows .ensures .0) (at-ext-rows .ext-rows .ensures .1) (sym (c .before .before .before .before .is-accepted2 .ensures) ∙ not-false _ (c .before .before .before .if3 .left)) _ (at-ext-rows .ext-rows .kept .1 .1 .1 .1 .1 .1 .1 .1 .1 .1 .0 ∙ at-entries .entries .kept .1 .1 .1 .1 .1 .0 ∙ ap length (p .1 .1 .0) ∙ length-replicate {A = ℕ} _ 0) (c .before .dead-entry .ensures) (c .if4 .taken)
+    dead-done L _ _ _ (p .1 .0) (p .1 .1 .0) (p .1 .1 .1) _ _ _ (at-entries .entries .ensures .0) (at-entries .entries .ensures .1 .0) (at-entries .entries .ensures .1 .1) (map-fits at-entries) (tables-accepted at-else2) _ _ (at-ext-rows .ext-rows .ensures .0) (at-ext-rows .ext-rows .ensures .1) (sym (c .before .before .before .before .is-accepted2 .ensures) ∙ not-false _ (c .before .before .before .if3 .left)) _ (at-ext-rows .ext-rows .kept .1 .1 .1 .1 .1 .1 .1 .1 .1 .1 .0 ∙ at-entries .entries .kept .1 .1 .1 .1 .1 .0 ∙ ap length (p .1 .1 .0) ∙ length-replicate {A = ℕ} _ 0) (c .before .dead-entry .ensures) (c .if4 .taken)
 
 roots-requires : tie.Need-roots-requires
 roots-requires c κs =
     let at-else2 = c .before .before .before .before .before .before .before .before .before .before in
-    let at-is-accepted = at-else2 .before in
-    let at-entries = at-is-accepted .before .before .before .before .before in
-    let at-else1 = at-entries .before .before .before in
-    let at-row-count = at-else1 .before in
-    let at-start = start at-row-count in
+    let at-entries = tabled at-else2 in
+    let at-start = entry at-entries in
     let s = at-start .args in
     let p = at-start .pre in
     let L = input at-start in
-    let b = passed-tables L _ _ _ (p .1 .0) (p .1 .1 .0) (p .1 .1 .1) _ _ _ (at-entries .entries .ensures .0) (at-entries .entries .ensures .1 .0) (at-entries .entries .ensures .1 .1) (at-else1 .if1 .left ∙ at-row-count .row-count .ensures) (sym (at-is-accepted .is-accepted .ensures) ∙ not-false _ (at-else2 .if2 .left)) in
+    let b = passed-tables L _ _ _ (p .1 .0) (p .1 .1 .0) (p .1 .1 .1) _ _ _ (at-entries .entries .ensures .0) (at-entries .entries .ensures .1 .0) (at-entries .entries .ensures .1 .1) (map-fits at-entries) (tables-accepted at-else2) in
     (reads-inside L b, (calls-inside L b, bits-within Target (s .tbits .now) [] (s .target .now) (widths Target (length (s .tbits .now)) [] (s .target .now)) (p .0 .target-formed)))
 
 same-length-7 : tie.Need-same-length-7
@@ -134,15 +144,12 @@ same-length-8 c = search needs
 returns-5 : tie.Need-returns-5
 returns-5 c =
     let at-ext-rows = c .before .before .before .before .before .before .before .before in
-    let at-else2 = at-ext-rows .before .before .before in
-    let at-is-accepted = at-else2 .before in
-    let at-entries = at-is-accepted .before .before .before .before .before in
-    let at-else1 = at-entries .before .before .before in
-    let at-row-count = at-else1 .before in
-    let at-start = start at-row-count in
+    let at-else2 = rowed at-ext-rows in
+    let at-entries = tabled at-else2 in
+    let at-start = entry at-entries in
     let p = at-start .pre in
     let L = input at-start in
-    roots-done L _ _ _ (p .1 .0) (p .1 .1 .0) (p .1 .1 .1) _ _ _ (at-entries .entries .ensures .0) (at-entries .entries .ensures .1 .0) (at-entries .entries .ensures .1 .1) (at-else1 .if1 .left ∙ at-row-count .row-count .ensures) (sym (at-is-accepted .is-accepted .ensures) ∙ not-false _ (at-else2 .if2 .left)) _ _ (at-ext-rows .ext-rows .ensures .0) (at-ext-rows .ext-rows .ensures .1) (sym (c .before .before .before .before .before .is-accepted2 .ensures) ∙ not-false _ (c .before .before .before .before .if3 .left)) _ (at-ext-rows .ext-rows .kept .1 .1 .1 .1 .1 .1 .1 .1 .1 .1 .0 ∙ at-entries .entries .kept .1 .1 .1 .1 .1 .0 ∙ ap length (p .1 .1 .0) ∙ length-replicate {A = ℕ} _ 0) (c .before .before .dead-entry .ensures) _ (c .before .if4 .left) (c .roots .ensures)
+    roots-done L _ _ _ (p .1 .0) (p .1 .1 .0) (p .1 .1 .1) _ _ _ (at-entries .entries .ensures .0) (at-entries .entries .ensures .1 .0) (at-entries .entries .ensures .1 .1) (map-fits at-entries) (tables-accepted at-else2) _ _ (at-ext-rows .ext-rows .ensures .0) (at-ext-rows .ext-rows .ensures .1) (sym (c .before .before .before .before .before .is-accepted2 .ensures) ∙ not-false _ (c .before .before .before .before .if3 .left)) _ (at-ext-rows .ext-rows .kept .1 .1 .1 .1 .1 .1 .1 .1 .1 .1 .0 ∙ at-entries .entries .kept .1 .1 .1 .1 .1 .0 ∙ ap length (p .1 .1 .0) ∙ length-replicate {A = ℕ} _ 0) (c .before .before .dead-entry .ensures) _ (c .before .if4 .left) (c .roots .ensures)
 
 pub matches-spec : {M : Type 1} → statement M
 matches-spec =
