@@ -4,6 +4,7 @@ use mathlib.Core.Path.{ap}
 use native.Mathlib.Omega.{arith}
 use lib.ListN.{length}
 use Rattle.lowering.specs.Images.{MAX}
+use Rattle.lowering.specs.Lowering.{Lowering, lowering}
 use Rattle.gilfrunt.specs.Exports.{checkedOf}
 use Rattle.gilfrunt.proofs.Sound.{check-sound}
 use borrow.Author.Needs.{needs}
@@ -38,6 +39,13 @@ read c = c .before .before .before .before .before .before .before .before .befo
 abbrev entry : tie.After-shared-slice-known11 → tie.Start
 entry c = c .before .before .before .before .before .before .before .before .before .before .before
 
+-- the lowering that the lists are
+abbrev input : tie.Start → Lowering
+input c =
+    let k = c .args in
+    lowering (k .source .now) (k .ebits .now) (k .eside .now) (k .eroots .now) (k .map .now) (k .reads .now) (k .calls .now) (k .cargs .now)
+    (k .target .now) (k .tbits .now) (k .troots .now)
+
 -- owning the target's slice bounds its length
 slice : (c : tie.Start) → length (c .args .target .now) ≤ MAX
 slice c = omega (arith, c .good .1 .1 .1 .1 .1 .1 .1 .1 .0 .0)
@@ -48,7 +56,7 @@ returns c =
     let o = call c .check .ensures in
     let s = entry (read (call c)) in
     let k = s .args in
-    (rw w (ap checkedOf o), check-sound _ _ w (k .ws0 .now) (k .ws1 .now) (k .classes .now) (k .entries .now) _ _ _ _ _ (slice s) o)
+    (rw w (ap checkedOf o), check-sound _ _ w (k .ws0 .now) (k .ws1 .now) (k .classes .now) (k .entries .now) _ _ _ _ (input s) (slice s) o)
 
 pub gilfrunt-check-spec : {M : Type 1} → statement M
 gilfrunt-check-spec =
