@@ -10,7 +10,8 @@ use lib.Seq.{take-at, drop-at, drop-drop, drop-append-add, drop-length, length-t
 use borrow.Rule.Slice.PartMut.{midOf, postOf, putMid, post-is, mid-len}
 use Rattle.lists.specs.Build.{build}
 use Rattle.lists.proofs.Build.{build-length, build-start, build-store}
-use Rattle.book.specs.Book.{wordAt, sections, contents, startOf, lengthOf, dueAt, isBits, body}
+use Rattle.contents.specs.Contents.{wordAt, sections, contents, startOf, lengthOf, isBits}
+use Rattle.book.specs.Book.{dueAt, body}
 use Rattle.bodies.specs.Words.{wordsOfBytes, listOf, loaded}
 use Rattle.book.specs.Good.{Good}
 use Rattle.book.proofs.Shape.{good-book}

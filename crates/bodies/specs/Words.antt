@@ -4,7 +4,8 @@ use mathlib.Core.Bool.{cond}
 use mathlib.Core.List.{List, [], _++_}
 use lib.ListN.{length}
 use Rattle.lists.specs.Build.{build}
-use Rattle.book.specs.Book.{wordAt, isBits, body}
+use Rattle.contents.specs.Contents.{wordAt, isBits}
+use Rattle.book.specs.Book.{body}
 
 -- bytes as words, "little-endian"
 abbrev pub wordsOfBytes : List ℕ → List ℕ

@@ -4,7 +4,7 @@ ghost use mathlib.Core.List.{_++_};
 ghost use mathlib.Core.Bool.{cond};
 ghost use Prim.Native.Nat.{_+_, _-_, _/_, _≤_, _<_};
 ghost use lib.ListN.{length, take, drop, replicate};
-ghost use Rattle.book.specs.Book.{sections};
+ghost use Rattle.contents.specs.Contents.{sections};
 ghost use Rattle.book.specs.Good.{Good};
 ghost use Rattle.bodies.specs.Words.{wordsOfBytes, listOf, loaded};
 
@@ -16,7 +16,7 @@ fn read_words(bytes: &[u8], out: &mut [u64])
     let n = bytes.len() / 8;
     let mut j = 0;
     while j < n {
-        out[j] = book::word(bytes, 8 * j);
+        out[j] = contents::word(bytes, 8 * j);
         j += 1;
     }
 }
@@ -26,10 +26,10 @@ pub fn word_count(book: &[u8], i: usize) -> usize
     requires { ⌜ (i < sections) × Good (now book) ⌝ }
     ensures count { λ r. ⌜ r ≡ length (listOf (now (book .entry)) i) ⌝ }
 {
-    if book::is_bits(i) {
+    if contents::is_bits(i) {
         return 0;
     }
-    book::length_of(book, i) as usize / 8
+    contents::length_of(book, i) as usize / 8
 }
 
 // How many words the first i sections have.
@@ -53,7 +53,7 @@ fn load_section(book: &[u8], i: usize, words: &mut [u64])
     ensures list { λ _. ⌜ now (words .exit) ≡ take (length (loaded (now (book .entry)) i)) (now (words .entry)) ++ (listOf
         (now (book .entry)) i ++ drop (length (loaded (now (book .entry)) i) + length (listOf (now (book .entry)) i)) (now (words .entry))) ⌝ }
 {
-    if book::is_bits(i) {
+    if contents::is_bits(i) {
         return;
     }
     let at = offset(book, i);

@@ -11,16 +11,9 @@ use Rattle.answers.specs.declared.Answer.the-variants.{Accepted, BookShape, NoS
 use Rattle.answers.specs.Answer.{isAccepted}
 use Rattle.lists.proofs.Choice.{no-way}
 use Rattle.lists.proofs.First.{first-before}
-use Rattle.book.specs.Book.{sections, contents, startOf, lengthOf, endOf, dueAt, isBits, badSection, firstBad, bookAnswer, sectionAnswer, body, sectionPlace, section}
+use Rattle.contents.specs.Contents.{sections, contents, startOf, lengthOf, isBits}
+use Rattle.book.specs.Book.{endOf, dueAt, badSection, firstBad, bookAnswer, sectionAnswer, body, sectionPlace, section}
 use Rattle.book.specs.Good.{Good}
-
--- a sum in words: it wraps where it comes out below its first part
-module _ (start len end : ℕ) (e : end ≡ (start + len) % 2 ^ 64) (s : start < 2 ^ 64) (l : len < 2 ^ 64) where
-  pub wraps-past : (n : ℕ) → n < 2 ^ 64 → end < start → n < start + len
-  wraps-past n m h = omega arith
-
-  pub sum-whole : start ≤ end → end ≡ start + len
-  sum-whole h = omega arith
 
 -- the tests of a section one after the other
 module _ (b : List ℕ) (i start due : ℕ) (s : start ≡ startOf b i) (d : due ≡ dueAt b i) where

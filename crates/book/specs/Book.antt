@@ -1,35 +1,17 @@
 -- Books and their sections (01, 'Section of a book'). Assumes nothing.
-use Prim.Native.Nat.{ℕ, zero, suc, _+_, _-_, _*_, _%_}
+use Prim.Native.Nat.{ℕ, zero, suc, _+_, _-_, _%_}
 use mathlib.Core.Bool.{Bool, true, false, not, cond}
 use mathlib.Core.List.{List, []}
 use lib.Dec.{eqb, ltb}
-use lib.ListN.{length, getD, take, drop}
+use lib.ListN.{length, take, drop}
 use Rattle.answers.specs.declared.Answer.{Answer}
 use Rattle.answers.specs.declared.Answer.the-variants.{Accepted, BookShape, NoSection}
 use Rattle.answers.specs.Answer.{isAccepted}
 use Rattle.lists.specs.First.{first}
+use Rattle.contents.specs.Contents.{sections, contents, startOf, lengthOf, isBits}
 use Rattle.book.specs.declared.Stretch.{Stretch}
 
--- "A book is little-endian": the word whose lowest byte stands at a place
-abbrev pub wordAt : List ℕ → ℕ → ℕ
-wordAt b at =
-    getD b at 0
-    + 256 * (getD b (at + 1) 0 + 256 * (getD b (at + 2) 0 + 256 * (getD b (at + 3) 0 + 256 * (getD b (at + 4) 0
-    + 256 * (getD b (at + 5) 0 + 256 * (getD b (at + 6) 0 + 256 * getD b (at + 7) 0))))))
-
--- "a table of contents of eleven entries, each start and length in bytes, one word each"; entry i is section i + 1's
-abbrev pub sections : ℕ
-sections = 11
-
-abbrev pub contents : ℕ
-contents = 16 * sections
-
-abbrev pub startOf : List ℕ → ℕ → ℕ
-startOf b i = wordAt b (16 * i)
-
-abbrev pub lengthOf : List ℕ → ℕ → ℕ
-lengthOf b i = wordAt b (16 * i + 8)
-
+-- where section i + 1 ends
 abbrev pub endOf : List ℕ → ℕ → ℕ
 endOf b i = startOf b i + lengthOf b i
 
@@ -37,10 +19,6 @@ endOf b i = startOf b i + lengthOf b i
 abbrev pub dueAt : List ℕ → ℕ → ℕ
 dueAt b zero = contents
 dueAt b (suc i) = endOf b i
-
--- "2 and 10, the bits"
-abbrev pub isBits : ℕ → Bool
-isBits i = cond (eqb i 1) true (eqb i 9)
 
 -- "section that doesn't start where the last ended, runs past the end, or (all but 2 and 10, the bits) isn't whole words"
 abbrev pub badSection : List ℕ → ℕ → Bool

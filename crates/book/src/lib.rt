@@ -1,10 +1,9 @@
-// Books: their table of contents and their sections. Entry i of the contents is section i + 1's.
+// Books and their sections. Entry i of the contents is section i + 1's.
 ghost use mathlib.Core.Path.{_≡_};
-ghost use Prim.Native.Nat.{_+_, _≤_, _<_};
-ghost use lib.Dec.{ltb};
+ghost use Prim.Native.Nat.{_≤_, _<_};
 ghost use lib.ListN.{length};
-ghost use Rattle.book.specs.Book.{wordAt, sections, contents, startOf, lengthOf, endOf, dueAt, isBits, badSection, firstBad, bookAnswer};
-ghost use Rattle.book.specs.Book.{sectionAnswer, body, sectionPlace, section};
+ghost use Rattle.contents.specs.Contents.{sections, contents};
+ghost use Rattle.book.specs.Book.{endOf, dueAt, badSection, firstBad, bookAnswer, sectionAnswer, body, sectionPlace, section};
 ghost use Rattle.book.specs.Good.{Good};
 use answers::Answer;
 
@@ -19,77 +18,21 @@ pub const SECTIONS: usize = 11;
 
 const CONTENTS: usize = 176;
 
-fn wide(x: u8) -> u64
-    ensures value { λ r. ⌜ (r ≡ x) × (r < 256) ⌝ }
-{
-    x as u64
-}
-
-// The little-endian word at a place.
-pub fn word(b: &[u8], at: usize) -> u64
-    requires { ⌜ at + 8 ≤ length (now b) ⌝ }
-    ensures value { λ r. ⌜ r ≡ wordAt (now (b .entry)) at ⌝ }
-{
-    let a0 = wide(b[at]);
-    let a1 = wide(b[at + 1]);
-    let a2 = wide(b[at + 2]);
-    let a3 = wide(b[at + 3]);
-    let a4 = wide(b[at + 4]);
-    let a5 = wide(b[at + 5]);
-    let a6 = wide(b[at + 6]);
-    let a7 = wide(b[at + 7]);
-    a0 + 256 * (a1 + 256 * (a2 + 256 * (a3 + 256 * (a4 + 256 * (a5 + 256 * (a6 + 256 * a7))))))
-}
-
-fn start_of(book: &[u8], i: usize) -> u64
-    requires { ⌜ (i < sections) × (contents ≤ length (now book)) ⌝ }
-    ensures value { λ r. ⌜ r ≡ startOf (now (book .entry)) i ⌝ }
-{
-    word(book, 16 * i)
-}
-
-pub fn length_of(book: &[u8], i: usize) -> u64
-    requires { ⌜ (i < sections) × (contents ≤ length (now book)) ⌝ }
-    ensures value { λ r. ⌜ r ≡ lengthOf (now (book .entry)) i ⌝ }
-{
-    word(book, 16 * i + 8)
-}
-
-pub fn is_bits(i: usize) -> bool
-    ensures test { λ r. ⌜ r ≡ isBits i ⌝ }
-{
-    if i == 1 {
-        return true;
-    }
-    i == 9
-}
-
-// Whether a stretch of bytes ends past n. A sum that wraps is above every n.
-fn runs_past(n: u64, start: u64, length: u64) -> bool
-    ensures test { λ r. ⌜ r ≡ ltb n (start + length) ⌝ }
-{
-    let end = std::num::wrapping_add_u64(start, length);
-    if end < start {
-        return true;
-    }
-    n < end
-}
-
 // Whether section i + 1 is bad; the last one before it ended at due.
 fn bad_section(book: &[u8], i: usize, due: u64) -> bool
     requires { ⌜ (i < sections) × (contents ≤ length (now book)) ⌝ }
     requires { ⌜ due ≡ dueAt (now book) i ⌝ }
     ensures test { λ r. ⌜ r ≡ badSection (now (book .entry)) i ⌝ }
 {
-    let start = start_of(book, i);
+    let start = contents::start_of(book, i);
     if start != due {
         return true;
     }
-    let length = length_of(book, i);
-    if runs_past(book.len() as u64, start, length) {
+    let length = contents::length_of(book, i);
+    if contents::runs_past(book.len() as u64, start, length) {
         return true;
     }
-    if is_bits(i) {
+    if contents::is_bits(i) {
         return false;
     }
     length % 8 != 0
@@ -101,7 +44,7 @@ fn end_of(book: &[u8], i: usize) -> u64
     requires { ⌜ endOf (now book) i ≤ length (now book) ⌝ }
     ensures value { λ r. ⌜ r ≡ endOf (now (book .entry)) i ⌝ }
 {
-    start_of(book, i) + length_of(book, i)
+    contents::start_of(book, i) + contents::length_of(book, i)
 }
 
 // The first bad section's entry, and the number of sections where none is bad.
@@ -156,7 +99,7 @@ pub fn body(book: &[u8], i: usize) -> &[u8]
     requires { ⌜ (i < sections) × Good (now book) ⌝ }
     ensures stretch { λ r. ⌜ now r ≡ body (now (book .entry)) i ⌝ }
 {
-    let start = start_of(book, i) as usize;
+    let start = contents::start_of(book, i) as usize;
     let end = end_of(book, i) as usize;
     &book[start..end]
 }
@@ -183,7 +126,7 @@ pub fn section_place(book: &[u8], number: u64) -> Stretch
     }
     let i = number as usize - 1;
     Stretch {
-        start: start_of(book, i),
-        length: length_of(book, i),
+        start: contents::start_of(book, i),
+        length: contents::length_of(book, i),
     }
 }

@@ -14,7 +14,8 @@ use Rattle.lowering.specs.Lowering.{sourceRows}
 use Rattle.lowering.specs.Check.{widthsOfSource, widthsOfTarget, classes, offsets, refuse, firstRefusal, countAnswers, checkAnswer, Outcome, outcome, check}
 use Rattle.checker.proofs.Keeps.{keeps-count}
 use Rattle.checker.proofs.Outcome.{keeps-rest}
-use Rattle.book.specs.Book.{sections, contents, dueAt, firstBad, bookAnswer}
+use Rattle.contents.specs.Contents.{sections, contents}
+use Rattle.book.specs.Book.{dueAt, firstBad, bookAnswer}
 use Rattle.loaded.specs.Held.{held, bookWords}
 use Rattle.judge.specs.Judge.{judgeAnswer, Judged, judged, judge}
 

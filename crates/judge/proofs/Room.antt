@@ -13,7 +13,8 @@ use Rattle.answers.specs.Answer.{isAccepted, andThen}
 use Rattle.lowering.specs.Lowering.{Lowering, sourceRows, targetRows}
 use Rattle.lowering.specs.Check.{sourceIll, targetIll, refuse, firstRefusal, countAnswers, graphAnswers, matchAnswers, checkAnswer}
 use Rattle.lowering.proofs.Refusals.{refusal-append}
-use Rattle.book.specs.Book.{sections, contents, dueAt, bookAnswer}
+use Rattle.contents.specs.Contents.{sections, contents}
+use Rattle.book.specs.Book.{dueAt, bookAnswer}
 use Rattle.bodies.specs.Words.{listOf, loaded}
 use Rattle.book.specs.Good.{Good}
 use Rattle.book.proofs.Shape.{good-book}

@@ -1,7 +1,8 @@
 -- The lists that a book holds, as Check takes them (01, 'Section of a book'). Assumes nothing.
 use Prim.Native.Nat.{ℕ}
 use mathlib.Core.List.{List}
-use Rattle.book.specs.Book.{sections, body}
+use Rattle.contents.specs.Contents.{sections}
+use Rattle.book.specs.Book.{body}
 use Rattle.bodies.specs.Words.{listOf, loaded}
 use Rattle.lowering.specs.Lowering.{Lowering, lowering}
 

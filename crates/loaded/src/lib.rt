@@ -3,7 +3,7 @@ ghost use mathlib.Core.Path.{_≡_};
 ghost use mathlib.Core.List.{_++_};
 ghost use lib.Dec.{ltb};
 ghost use lib.ListN.{length, drop};
-ghost use Rattle.book.specs.Book.{sections};
+ghost use Rattle.contents.specs.Contents.{sections};
 ghost use Rattle.book.specs.Good.{Good};
 ghost use Rattle.bodies.specs.Words.{loaded};
 ghost use Rattle.answers.specs.Answer.{andThen};

@@ -4,7 +4,7 @@ use mathlib.Core.Bool.{true, false}
 use Prim.Native.Nat.{_≤_}
 use lib.ListN.{length}
 use borrow.Author.Tests.{not-true, not-false}
-use Rattle.book.specs.Book.{sections}
+use Rattle.contents.specs.Contents.{sections}
 use Rattle.bodies.specs.Words.{loaded}
 use Rattle.bodies.proofs.Words.{words-inside, words-cleared}
 use borrow.Author.Needs.{needs}

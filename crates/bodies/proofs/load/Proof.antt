@@ -4,7 +4,7 @@ use Prim.Native.Nat.{_≤_, _-_, _+_}
 use native.Mathlib.Omega.{arith}
 use lib.ListN.{length}
 use borrow.Author.Needs.{needs}
-use Rattle.book.specs.Book.{sections}
+use Rattle.contents.specs.Contents.{sections}
 use Rattle.bodies.specs.Words.{loaded, listOf}
 use Rattle.bodies.proofs.Words.{filled, filled-none, filled-more, loaded-below}
 use Rattle.bodies.proofs.load.Statement.{statement}

@@ -1,7 +1,7 @@
 -- No words for bits; else an eighth of the section's length, which is whole. Assumes nothing.
 use mathlib.Core.Path.{_≡_, sym, _∙_}
 use mathlib.Core.Bool.{true}
-use Rattle.book.specs.Book.{isBits}
+use Rattle.contents.specs.Contents.{isBits}
 use Rattle.book.proofs.Shape.{good-book}
 use Rattle.bodies.proofs.Words.{words-count}
 use borrow.Author.Needs.{needs}

@@ -7,7 +7,8 @@ use native.Mathlib.Numerals.{add-one}
 use borrow.Author.Count.{below-more}
 use borrow.Author.Needs.{needs}
 use Rattle.lists.proofs.First.{first-at, first-past}
-use Rattle.book.specs.Book.{sections, dueAt, badSection}
+use Rattle.contents.specs.Contents.{sections}
+use Rattle.book.specs.Book.{dueAt, badSection}
 use Rattle.book.proofs.Shape.{good-section}
 use Rattle.book.proofs.first_bad.Statement.{statement}
 use Rattle.book.proofs.first_bad.Tie as tie

@@ -1,6 +1,6 @@
 -- Each return is one law of proofs/Outcome: past the first test the book is good, past the second all five lists have room. Assumes nothing.
 use lib.ListN.{length}
-use Rattle.book.specs.Book.{sections}
+use Rattle.contents.specs.Contents.{sections}
 use Rattle.bodies.proofs.Words.{filled-rest}
 use mathlib.Core.Path.{_≡_, sym, _∙_}
 use mathlib.Core.Bool.{true}

@@ -1,10 +1,10 @@
 -- A sum that wraps comes out below its first part, and then passes every n; else it is exact. Assumes nothing.
 use mathlib.Core.Path.{sym}
 use borrow.Author.Tests.{lt-ltb}
-use Rattle.book.proofs.Shape.{wraps-past, sum-whole}
+use Rattle.contents.proofs.Sum.{wraps-past, sum-whole}
 use borrow.Author.Needs.{needs}
-use Rattle.book.proofs.runs_past.Statement.{statement}
-use Rattle.book.proofs.runs_past.Tie as tie
+use Rattle.contents.proofs.runs_past.Statement.{statement}
+use Rattle.contents.proofs.runs_past.Tie as tie
 
 wrapping-add-u64-requires : tie.Need-wrapping-add-u64-requires
 wrapping-add-u64-requires c κs = search needs

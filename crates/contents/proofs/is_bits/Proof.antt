@@ -1,7 +1,7 @@
 -- Both tests in the definition's order. Assumes nothing.
 use borrow.Author.Tests.{eq-eqb, ne-eqb}
-use Rattle.book.proofs.is_bits.Statement.{statement}
-use Rattle.book.proofs.is_bits.Tie as tie
+use Rattle.contents.proofs.is_bits.Statement.{statement}
+use Rattle.contents.proofs.is_bits.Tie as tie
 
 returns : tie.Need-returns
 returns c = rw (eq-eqb _ _ (c .if1 .taken))
