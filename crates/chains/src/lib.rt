@@ -13,6 +13,7 @@ ghost use Rattle.chains.specs.Ready.{PairsWithin};
 ghost use Rattle.chains.specs.Step.{levelStep, pairStep};
 use lowering::Walk;
 use rows::Graph;
+use rows::tag;
 
 // Target row r is Ite(Eq(a, b), v, rest): the walk goes on at the rest.
 fn level(target: &[u64], a: u64, b: u64, v: u64, r: u64) -> Walk
@@ -22,7 +23,7 @@ fn level(target: &[u64], a: u64, b: u64, v: u64, r: u64) -> Walk
         return Walk::Lost;
     }
     let d = rows::row(Graph::Target, target, r as usize);
-    if d[0] != 18 {
+    if d[0] != tag::ITE {
         return Walk::Lost;
     }
     if d[2] != v {

@@ -11,6 +11,7 @@ ghost use Rattle.pairs.specs.Walk.{walked};
 ghost use Rattle.congruence.specs.Calls.{CallsIn};
 use pairs::Cong;
 use rows::Graph;
+use rows::tag;
 
 // Row a says that k arguments from sp on and from sq on are equal: BoolAnd nested to the left, the last equality outermost.
 fn ante_ok(target: &[u64], cargs: &[u64], sp: usize, sq: usize, k: usize, a: u64) -> bool
@@ -26,7 +27,7 @@ fn ante_ok(target: &[u64], cargs: &[u64], sp: usize, sq: usize, k: usize, a: u64
             return false;
         }
         let d = rows::row(Graph::Target, target, cur as usize);
-        if d[0] != 30 {
+        if d[0] != tag::BOOL_AND {
             return false;
         }
         if !images::is_eq(target, cargs[sp + l], cargs[sq + l], d[2]) {

@@ -6,6 +6,7 @@ ghost use Prim.Native.Nat.{ℕ, _<_, _≤_};
 ghost use lib.ListN.{length, getD};
 ghost use Rattle.rows.specs.Row.{rowCount};
 ghost use Rattle.encoding.specs.Encoding.{tagCount, fieldCount, fieldGood, rowGood, rowBad, badRow, badBit};
+use rows::tag;
 
 fn tag_count(graph: Graph) -> u64
     ensures count { λ r. ⌜ r ≡ tagCount graph ⌝ }
@@ -19,16 +20,16 @@ fn tag_count(graph: Graph) -> u64
 fn field_count(t: u64) -> u64
     ensures count { λ r. ⌜ r ≡ fieldCount t ⌝ }
 {
-    if 37 <= t {
+    if tag::SELECT <= t {
         return 4;
     }
     match t {
-        0 => 1,
-        29 => 1,
-        32 => 1,
-        33 => 1,
-        14 => 3,
-        18 => 3,
+        tag::VAR => 1,
+        tag::NOT => 1,
+        tag::BV_NOT => 1,
+        tag::NEG => 1,
+        tag::EXTRACT => 3,
+        tag::ITE => 3,
         _ => 2,
     }
 }

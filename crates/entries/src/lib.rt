@@ -8,6 +8,7 @@ ghost use Rattle.rows.specs.Row.{rowCount};
 ghost use Rattle.keys.specs.Keys.{ArgsInside};
 ghost use Rattle.entries.specs.Entries.{stride, isVar, free, argsIn, readOwn, callOwn, own, good, ArgsBefore};
 use rows::Graph;
+use rows::tag;
 use rules::CELL_WIDTH;
 use rules::INDEX_WIDTH;
 
@@ -23,7 +24,7 @@ fn is_var(which: Table, r: [u64; 5]) -> bool
 {
     match which {
         Table::Reads => images::row_is_var(r, CELL_WIDTH),
-        Table::Calls => rows::node_tag(r) == 0,
+        Table::Calls => rows::node_tag(r) == tag::VAR,
     }
 }
 

@@ -12,6 +12,7 @@ ghost use Rattle.lowering.specs.Matching.{isEq};
 ghost use Rattle.images.specs.Bits.{BitsWithin};
 ghost use Rattle.images.specs.Constants.{constantOf};
 use rows::Graph;
+use rows::tag;
 
 // No row has this number; a row that is mapped here has no image.
 pub const MAX: u64 = 0xffff_ffff_ffff_ffff;
@@ -31,19 +32,19 @@ fn map_from(map: &[u64], t: u64, a: u64, b: u64, c: u64, d: u64) -> [u64; 5]
     ensures row { λ r. ⌜ r ≡ rowOf (mapNode (now (map .entry)) (nodeFrom t a b c d)) ⌝ }
 {
     match t {
-        0 => [0, a, 0, 0, 0],
-        1 => [1, a, b, 0, 0],
-        14 => [14, a, b, map_at(map, c), 0],
-        16 => [16, map_at(map, a), b, 0, 0],
-        17 => [17, map_at(map, a), b, 0, 0],
-        18 => [18, map_at(map, a), map_at(map, b), map_at(map, c), 0],
-        29 => [29, map_at(map, a), 0, 0, 0],
-        32 => [32, map_at(map, a), 0, 0, 0],
-        33 => [33, map_at(map, a), 0, 0, 0],
-        37 => [37, a, b, c, d],
-        38 => [38, a, b, c, d],
+        tag::VAR => [tag::VAR, a, 0, 0, 0],
+        tag::CONST => [tag::CONST, a, b, 0, 0],
+        tag::EXTRACT => [tag::EXTRACT, a, b, map_at(map, c), 0],
+        tag::ZERO_EXT => [tag::ZERO_EXT, map_at(map, a), b, 0, 0],
+        tag::SIGN_EXT => [tag::SIGN_EXT, map_at(map, a), b, 0, 0],
+        tag::ITE => [tag::ITE, map_at(map, a), map_at(map, b), map_at(map, c), 0],
+        tag::NOT => [tag::NOT, map_at(map, a), 0, 0, 0],
+        tag::BV_NOT => [tag::BV_NOT, map_at(map, a), 0, 0, 0],
+        tag::NEG => [tag::NEG, map_at(map, a), 0, 0, 0],
+        tag::SELECT => [tag::SELECT, a, b, c, d],
+        tag::CALL => [tag::CALL, a, b, c, d],
         _ => {
-            if t < 37 {
+            if t < tag::SELECT {
                 [t, map_at(map, a), map_at(map, b), 0, 0]
             } else {
                 [39, 0, 0, 0, 0]
@@ -62,13 +63,13 @@ pub fn map_node(map: &[u64], r: [u64; 5]) -> [u64; 5]
 pub fn row_is_var(r: [u64; 5], w: u64) -> bool
     ensures test { λ b. ⌜ b ≡ rowIs r (Node.Var w) ⌝ }
 {
-    rows::node_eq(r, [0, w, 0, 0, 0])
+    rows::node_eq(r, [tag::VAR, w, 0, 0, 0])
 }
 
 pub fn row_is_eq(r: [u64; 5], a: u64, b: u64) -> bool
     ensures test { λ t. ⌜ t ≡ rowIs r (Node.Bin tEq a b) ⌝ }
 {
-    rows::node_eq(r, [19, a, b, 0, 0])
+    rows::node_eq(r, [tag::EQ, a, b, 0, 0])
 }
 
 // What a row says as a constant: whether it is one, and if so where its bits start and how many there are.
@@ -81,7 +82,7 @@ pub struct Constant {
 fn ext_const(r: [u64; 5]) -> Constant
     ensures constant { λ c. ⌜ c ≡ constantOf r ⌝ }
 {
-    if r[0] != 1 {
+    if r[0] != tag::CONST {
         return Constant {
             is: false,
             start: 0,

@@ -9,6 +9,7 @@ ghost use Rattle.rows.specs.Row.{rowCount};
 ghost use Rattle.inputs.specs.Inputs.{wideRow, badWord, givenAnswer};
 use answers::Answer;
 use rows::Graph;
+use rows::tag;
 
 // The first row wider than 64 bits, or the number of rows.
 fn too_wide(ws: &[u64]) -> usize
@@ -28,7 +29,7 @@ fn too_wide(ws: &[u64]) -> usize
 fn word_bad(r: [u64; 5], x: u64) -> bool
     ensures test { λ b. ⌜ b ≡ cond (eqb (getD r 0 0) 0) (not (ltb x (2 ^ getD r 1 0))) false ⌝ }
 {
-    if r[0] != 0 {
+    if r[0] != tag::VAR {
         return false;
     }
     !arith::value_fits(r[1], x)

@@ -6,6 +6,7 @@ ghost use Rattle.lowering.specs.Roots.{badLead, leads};
 ghost use Rattle.leads.specs.Shape.{antecedent};
 use images::MAX;
 use rows::Graph;
+use rows::tag;
 
 // The image of source root k has its place.
 fn root_leads(map: &[u64], eroots: &[u64], troots: &[u64], k: usize) -> bool
@@ -45,7 +46,7 @@ pub fn implication_shape(target: &[u64], root: u64, vp: u64, vq: u64) -> u64
         return MAX;
     }
     let d = rows::row(Graph::Target, target, root as usize);
-    if d[0] != 31 {
+    if d[0] != tag::BOOL_OR {
         return MAX;
     }
     if !images::is_eq(target, vp, vq, d[2]) {
@@ -55,7 +56,7 @@ pub fn implication_shape(target: &[u64], root: u64, vp: u64, vq: u64) -> u64
         return MAX;
     }
     let dn = rows::row(Graph::Target, target, d[1] as usize);
-    if dn[0] != 29 {
+    if dn[0] != tag::NOT {
         return MAX;
     }
     dn[1]

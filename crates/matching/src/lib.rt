@@ -18,6 +18,7 @@ ghost use Rattle.matching.specs.Ready.{Formed};
 use answers::Answer;
 use images::MAX;
 use rows::Graph;
+use rows::tag;
 
 // The classes of a read or call variable that nothing has reached.
 fn dead_class(c: u64) -> bool
@@ -116,16 +117,16 @@ fn row_corr(
     let e = rows::row(Graph::Source, source, i);
     let t = e[0];
     match t {
-        0 => matched(var_corr(target, cls, e[1], r), Answer::VarClass(i as u64)),
-        1 => matched(
+        tag::VAR => matched(var_corr(target, cls, e[1], r), Answer::VarClass(i as u64)),
+        tag::CONST => matched(
             const_corr(ebits, target, tbits, e, r),
             Answer::ConstMismatch(i as u64),
         ),
-        37 => matched(
+        tag::SELECT => matched(
             chains::select_corr(source, ebits, eside, map, reads, target, ent, cls, e, r),
             Answer::ChainMismatch(i as u64),
         ),
-        38 => matched(
+        tag::CALL => matched(
             applied::call_corr(eside, map, calls, cargs, target, ent, cls, e, r),
             Answer::CallMismatch(i as u64),
         ),

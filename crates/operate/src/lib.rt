@@ -9,6 +9,7 @@ ghost use Rattle.rows.specs.Decoded.{BinTag};
 ghost use Rattle.value.specs.Val.{val};
 ghost use Rattle.value.specs.Operate.{opNumber, constNumber};
 ghost use Rattle.operate.specs.Ready.{BinReady, Words, evenNumber};
+use rows::tag;
 
 // ---- one operand
 // Not 29, BvNot 32, Neg 33.
@@ -17,8 +18,8 @@ pub fn un_value(t: u64, w: u64, a: u64) -> u64
     ensures value { λ r. ⌜ r ≡ opNumber t [] (val w a ∷ []) ⌝ }
 {
     match t {
-        29 => bitwise::bv_not(w, a),
-        32 => bitwise::bv_not(w, a),
+        tag::NOT => bitwise::bv_not(w, a),
+        tag::BV_NOT => bitwise::bv_not(w, a),
         _ => arith::bv_neg(w, a),
     }
 }
@@ -29,7 +30,7 @@ pub fn extend_value(t: u64, w: u64, n: u64, a: u64) -> u64
     ensures value { λ r. ⌜ r ≡ opNumber t (n ∷ []) (val w a ∷ []) ⌝ }
 {
     match t {
-        16 => arith::bv_zero_extend(w, a),
+        tag::ZERO_EXT => arith::bv_zero_extend(w, a),
         _ => arith::bv_sign_extend(w, n, a),
     }
 }
@@ -41,10 +42,10 @@ fn sums(t: u64, w: u64, a: u64, b: u64) -> u64
     ensures value { λ r. ⌜ r ≡ evenNumber t w a b ⌝ }
 {
     match t {
-        2 => arith::bv_add(w, a, b),
-        3 => arith::bv_sub(w, a, b),
-        4 => arith::bv_mul(w, a, b),
-        5 => divide::bv_udiv(w, a, b),
+        tag::ADD => arith::bv_add(w, a, b),
+        tag::SUB => arith::bv_sub(w, a, b),
+        tag::MUL => arith::bv_mul(w, a, b),
+        tag::UDIV => divide::bv_udiv(w, a, b),
         _ => divide::bv_urem(w, a, b),
     }
 }
@@ -55,8 +56,8 @@ fn logic(t: u64, w: u64, a: u64, b: u64) -> u64
     ensures value { λ r. ⌜ r ≡ evenNumber t w a b ⌝ }
 {
     match t {
-        7 => bitwise::bv_and(w, a, b),
-        8 => bitwise::bv_or(w, a, b),
+        tag::AND => bitwise::bv_and(w, a, b),
+        tag::OR => bitwise::bv_or(w, a, b),
         _ => bitwise::bv_xor(w, a, b),
     }
 }
@@ -67,9 +68,9 @@ fn shifts(t: u64, w: u64, a: u64, b: u64) -> u64
     ensures value { λ r. ⌜ r ≡ evenNumber t w a b ⌝ }
 {
     match t {
-        10 => bitwise::bv_shl(w, a, b),
-        11 => bitwise::bv_lshr(w, a, b),
-        12 => bitwise::bv_ashr(w, a, b),
+        tag::SHL => bitwise::bv_shl(w, a, b),
+        tag::LSHR => bitwise::bv_lshr(w, a, b),
+        tag::ASHR => bitwise::bv_ashr(w, a, b),
         _ => bitwise::bv_rotr(w, a, b),
     }
 }
@@ -80,11 +81,11 @@ fn compares(t: u64, w: u64, a: u64, b: u64) -> u64
     ensures value { λ r. ⌜ r ≡ evenNumber t w a b ⌝ }
 {
     match t {
-        19 => comparisons::bv_equal(a, b),
-        20 => comparisons::bv_distinct(a, b),
-        21 => comparisons::bv_ult(a, b),
-        22 => comparisons::bv_ule(a, b),
-        23 => comparisons::bv_ugt(a, b),
+        tag::EQ => comparisons::bv_equal(a, b),
+        tag::NE => comparisons::bv_distinct(a, b),
+        tag::ULT => comparisons::bv_ult(a, b),
+        tag::ULE => comparisons::bv_ule(a, b),
+        tag::UGT => comparisons::bv_ugt(a, b),
         _ => comparisons::bv_uge(a, b),
     }
 }
@@ -95,9 +96,9 @@ fn signed_compares(t: u64, w: u64, a: u64, b: u64) -> u64
     ensures value { λ r. ⌜ r ≡ evenNumber t w a b ⌝ }
 {
     match t {
-        25 => comparisons::bv_slt(w, a, b),
-        26 => comparisons::bv_sle(w, a, b),
-        27 => comparisons::bv_sgt(w, a, b),
+        tag::SLT => comparisons::bv_slt(w, a, b),
+        tag::SLE => comparisons::bv_sle(w, a, b),
+        tag::SGT => comparisons::bv_sgt(w, a, b),
         _ => comparisons::bv_sge(w, a, b),
     }
 }
@@ -108,7 +109,7 @@ fn bools(t: u64, w: u64, a: u64, b: u64) -> u64
     ensures value { λ r. ⌜ r ≡ evenNumber t w a b ⌝ }
 {
     match t {
-        30 => bitwise::bv_and(w, a, b),
+        tag::BOOL_AND => bitwise::bv_and(w, a, b),
         _ => bitwise::bv_or(w, a, b),
     }
 }
@@ -119,8 +120,8 @@ fn others(t: u64, w: u64, a: u64, b: u64) -> u64
     ensures value { λ r. ⌜ r ≡ evenNumber t w a b ⌝ }
 {
     match t {
-        34 => bitwise::bv_rotl(w, a, b),
-        35 => divide::bv_sdiv(w, a, b),
+        tag::ROTL => bitwise::bv_rotl(w, a, b),
+        tag::SDIV => divide::bv_sdiv(w, a, b),
         _ => divide::bv_srem(w, a, b),
     }
 }
@@ -130,22 +131,22 @@ fn even_value(t: u64, w: u64, a: u64, b: u64) -> u64
     requires { ⌜ BinTag t × (t ≡ tConcat → ⊥) × Words w a b ⌝ }
     ensures value { λ r. ⌜ r ≡ evenNumber t w a b ⌝ }
 {
-    if t < 7 {
+    if t < tag::AND {
         return sums(t, w, a, b);
     }
-    if t < 10 {
+    if t < tag::SHL {
         return logic(t, w, a, b);
     }
-    if t < 14 {
+    if t < tag::EXTRACT {
         return shifts(t, w, a, b);
     }
-    if t < 25 {
+    if t < tag::SLT {
         return compares(t, w, a, b);
     }
-    if t < 29 {
+    if t < tag::NOT {
         return signed_compares(t, w, a, b);
     }
-    if t < 32 {
+    if t < tag::BV_NOT {
         return bools(t, w, a, b);
     }
     others(t, w, a, b)
@@ -157,7 +158,7 @@ pub fn bin_value(t: u64, u: u64, a: u64, v: u64, b: u64) -> u64
     requires { ⌜ BinReady t u a v b ⌝ }
     ensures value { λ r. ⌜ r ≡ opNumber t [] (val u a ∷ val v b ∷ []) ⌝ }
 {
-    if t == 15 {
+    if t == tag::CONCAT {
         return arith::bv_concat(v, a, b);
     }
     even_value(t, u, a, b)

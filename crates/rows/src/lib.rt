@@ -5,6 +5,8 @@ ghost use lib.ListN.{length, getD};
 ghost use Rattle.rows.specs.Row.{graphNumber, rowCount, ragged, rowAt};
 ghost use Rattle.rows.specs.Node.{nodeFrom, nodeOf, rowEq};
 
+pub mod tag;
+
 // Which graph a list of words holds.
 pub enum Graph {
     Source,
@@ -98,19 +100,19 @@ fn node_from(t: u64, a: u64, b: u64, c: u64, d: u64) -> Node
     ensures node { λ r. ⌜ r ≡ nodeFrom t a b c d ⌝ }
 {
     match t {
-        0 => Node::Var(a),
-        1 => Node::Const(a, b),
-        14 => Node::Extract(a, b, c),
-        16 => Node::Extend(t, a, b),
-        17 => Node::Extend(t, a, b),
-        18 => Node::Ite(a, b, c),
-        29 => Node::Un(t, a),
-        32 => Node::Un(t, a),
-        33 => Node::Un(t, a),
-        37 => Node::Select(a, b, c, d),
-        38 => Node::Call(a, b, c, d),
+        tag::VAR => Node::Var(a),
+        tag::CONST => Node::Const(a, b),
+        tag::EXTRACT => Node::Extract(a, b, c),
+        tag::ZERO_EXT => Node::Extend(t, a, b),
+        tag::SIGN_EXT => Node::Extend(t, a, b),
+        tag::ITE => Node::Ite(a, b, c),
+        tag::NOT => Node::Un(t, a),
+        tag::BV_NOT => Node::Un(t, a),
+        tag::NEG => Node::Un(t, a),
+        tag::SELECT => Node::Select(a, b, c, d),
+        tag::CALL => Node::Call(a, b, c, d),
         _ => {
-            if t < 37 {
+            if t < tag::SELECT {
                 Node::Bin(t, a, b)
             } else {
                 Node::Unknown

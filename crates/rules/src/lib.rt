@@ -4,6 +4,7 @@ ghost use mathlib.Core.List.{[]};
 ghost use Prim.Native.Nat.{_+_};
 ghost use Rattle.rows.specs.declared.Node.{Node};
 ghost use Rattle.rules.specs.Rule.{capped, unWidth, binWidth, extractWidth, iteWidth, nodeWidth};
+use rows::tag;
 
 // No width passes it.
 const CEILING: u64 = 0xffff_ffff_ffff_ffff;
@@ -26,7 +27,7 @@ pub fn sum_width(a: u64, b: u64) -> u64
 pub fn un_width(t: u64, a: u64) -> u64
     ensures width { λ r. ⌜ r ≡ capped (unWidth t a) ⌝ }
 {
-    if t != 29 {
+    if t != tag::NOT {
         return a;
     }
     if a == 1 { 1 } else { 0 }
@@ -44,22 +45,22 @@ pub fn bool_width(a: u64, b: u64) -> u64
 pub fn bin_width(t: u64, a: u64, b: u64) -> u64
     ensures width { λ r. ⌜ r ≡ capped (binWidth t a b) ⌝ }
 {
-    if t == 15 {
+    if t == tag::CONCAT {
         return sum_width(a, b);
     }
-    if t == 30 {
+    if t == tag::BOOL_AND {
         return bool_width(a, b);
     }
-    if t == 31 {
+    if t == tag::BOOL_OR {
         return bool_width(a, b);
     }
     if a != b {
         return 0;
     }
-    if t < 19 {
+    if t < tag::EQ {
         return a;
     }
-    if t < 29 { 1 } else { a }
+    if t < tag::NOT { 1 } else { a }
 }
 
 pub fn extract_width(high: u64, low: u64, a: u64) -> u64
