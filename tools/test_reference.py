@@ -61,6 +61,11 @@ class Tags(unittest.TestCase):
         self.assertEqual([(int(row[0]), row[1]) for row in self.rows],
                          [(at, tag.name) for at, tag in enumerate(TAGS)])
 
+    def test_constants_of_the_code(self):
+        """The tags that the code names, each once, have the numbers of the table."""
+        found = re.findall(r"pub const (\w+): u64 = (\d+);", content("crates", "rows", "src", "tag.rt"))
+        self.assertEqual(found, [(capitals(tag.name), str(at)) for at, tag in enumerate(TAGS)])
+
     def test_fields_and_rules(self):
         for row, tag in zip(self.rows, TAGS):
             with self.subTest(tag=tag.name):
