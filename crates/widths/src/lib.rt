@@ -8,7 +8,8 @@ use rows::Graph;
 
 // The widths of a graph's rows, or the first refusal by 01's order.
 fn graph_widths(graph: Graph, g: &[u64], bits: &[u8], side: &[u64], ws: &mut [u64]) -> Answer
-    ensures outcome { λ r. ⌜ result r (now (ws .exit) ∷ []) ≡ graphWidths graph (now (g .entry)) (now (bits .entry)) (now (side .entry)) (now (ws .entry)) ⌝ }
+    ensures outcome { λ r. ⌜ result r (now (ws .exit) ∷ []) ≡ graphWidths graph (now (g .entry)) (now (bits .entry)) (now (side .entry))
+        (now (ws .entry)) ⌝ }
 {
     if rows::is_ragged(graph, g) {
         return Answer::RowCount(rows::graph_number(graph));
@@ -32,7 +33,8 @@ fn graph_widths(graph: Graph, g: &[u64], bits: &[u8], side: &[u64], ws: &mut [u6
 }
 
 pub fn source_widths(source: &[u64], bits: &[u8], side: &[u64], ws: &mut [u64]) -> Answer
-    ensures outcome { λ r. ⌜ result r (now (ws .exit) ∷ []) ≡ sourceWidths (now (source .entry)) (now (bits .entry)) (now (side .entry)) (now (ws .entry)) ⌝ }
+    ensures outcome { λ r. ⌜ result r (now (ws .exit) ∷ []) ≡ sourceWidths (now (source .entry)) (now (bits .entry)) (now (side .entry))
+        (now (ws .entry)) ⌝ }
 {
     graph_widths(Graph::Source, source, bits, side, ws)
 }
