@@ -2,14 +2,15 @@
 use Prim.Native.Nat.{ℕ, _*_, _-_, _≤_}
 use mathlib.Core.Path.{_≡_, refl, sym, ap, _∙_}
 use mathlib.Core.Bool.{Bool, true, false}
-use mathlib.Core.List.{List, [], _++_}
+use mathlib.Core.List.{List, [], _∷_, _++_}
 use borrow.Author.Tests.{ltb-false}
 use lib.Dec.{ltb}
 use lib.ListN.{length, replicate, take, length-replicate}
 use lib.Seq.{take-at}
 use Rattle.answers.specs.declared.Answer.{Answer}
 use Rattle.answers.specs.declared.Answer.the-variants.{WorkShort}
-use Rattle.answers.specs.Answer.{isAccepted, keeps, lent, andThen}
+use Rattle.answers.specs.Answer.{isAccepted, keeps, andThen}
+use Rattle.answers.specs.Result.{Result, result, left, leaves}
 use Rattle.lists.proofs.Build.{build-length}
 use Rattle.rows.specs.declared.Graph.{Graph}
 use Rattle.rows.specs.declared.Graph.the-variants.{Source, Target}
@@ -18,7 +19,7 @@ use Rattle.wf.specs.Widths.{rowWidth, widths}
 use Rattle.wf.proofs.Promise.{well-formed}
 use Rattle.lowering.specs.Tables.{readCount, readVar, callCount, callVar, readOffsets}
 use Rattle.lowering.specs.Lowering.{Lowering, sourceRows, targetRows}
-use Rattle.lowering.specs.Check.{widthsOfSource, widthsOfTarget, sourceIll, targetIll, noClasses, classesOfReads, classes, offsets, refuse, firstRefusal, countAnswers, graphAnswers, graphsAnswer, matchAnswers, checkAnswer, Outcome, outcome, check}
+use Rattle.lowering.specs.Check.{widthsOfSource, widthsOfTarget, sourceIll, targetIll, noClasses, classesOfReads, classes, offsets, refuse, firstRefusal, countAnswers, graphAnswers, graphsAnswer, matchAnswers, checkAnswer, check}
 use Rattle.lowering.proofs.Classes.{classes-keep-length}
 use Rattle.lowering.proofs.Inversion.{Each, each, not-refused}
 use Rattle.lowering.proofs.Marks.{marks-length}
@@ -68,40 +69,44 @@ module _ (L : Lowering) (ws0 ws1 cls ent : List ℕ) where
       whole-keeps true e = rw (whole-is, c, e) (keeps-match L)
       whole-keeps false e = rw (whole-is, c, e) (keeps-graphs (L .source) (L .target) (sourceIll (L .source)) (targetIll (L .target)))
 
-  settle : (a : Answer) (x0 x1 x2 x3 : List ℕ) → whole ≡ a → lent a ws0 (widthsOfSource L) ≡ x0 → lent a ws1 (widthsOfTarget L) ≡ x1
-      → lent a cls (classes L (sourceRows L)) ≡ x2 → lent a ent (offsets L) ≡ x3 → outcome a x0 x1 x2 x3 ≡ check L ws0 ws1 cls ent
-  settle a x0 x1 x2 x3 e f g h k = sym (rw (e, f, g, h, k))
+  -- the four lists with what acceptance writes; what a refusal leaves that zeroes them
+  abbrev pub four : List (List ℕ × List ℕ)
+  four = (ws0, widthsOfSource L) ∷ (ws1, widthsOfTarget L) ∷ (cls, classes L (sourceRows L)) ∷ (ent, offsets L) ∷ []
+
+  abbrev cleared : List (List ℕ)
+  cleared = replicate (length ws0) 0 ∷ replicate (length ws1) 0 ∷ replicate (length cls) 0 ∷ replicate (length ent) 0 ∷ []
+
+  settle : (a : Answer) (lists : List (List ℕ)) → whole ≡ a → left a four ≡ lists → result a lists ≡ check L ws0 ws1 cls ent
+  settle a lists e f = sym (ap (λ (z : Answer). leaves z four) e ∙ ap (result a) f)
 
   module _ (a : Answer) where
-    zeroed : whole ≡ a → isAccepted a ≡ false → keeps a ≡ false
-        → outcome a (replicate (length ws0) 0) (replicate (length ws1) 0) (replicate (length cls) 0) (replicate (length ent) 0) ≡ check L ws0 ws1 cls ent
-    zeroed e n k = settle a _ _ _ _ e (rw (n, k)) (rw (n, k)) (rw (n, k)) (rw (n, k))
+    zeroed : whole ≡ a → isAccepted a ≡ false → keeps a ≡ false → result a cleared ≡ check L ws0 ws1 cls ent
+    zeroed e n k = settle a cleared e (rw (n, k))
 
-    pub count-done : a ≡ counts → isAccepted a ≡ false → outcome a ws0 ws1 cls ent ≡ check L ws0 ws1 cls ent
+    pub count-done : a ≡ counts → isAccepted a ≡ false → result a (ws0 ∷ ws1 ∷ cls ∷ ent ∷ []) ≡ check L ws0 ws1 cls ent
     count-done e n =
         let r : isAccepted counts ≡ false = rw e at n in
         let k : keeps a ≡ true = rw e (keeps-count (L .source) (L .target) (length ws0) (length ws1) (length cls) (length ent) r) in
-        settle a ws0 ws1 cls ent (whole-is ∙ rw r (sym e)) (rw (n, k)) (rw (n, k)) (rw (n, k)) (rw (n, k))
+        settle a _ (whole-is ∙ rw r (sym e)) (rw (n, k))
 
     module _ (c : isAccepted counts ≡ true) where
-      pub graph-done : a ≡ forms → isAccepted a ≡ false
-          → outcome a (replicate (length ws0) 0) (replicate (length ws1) 0) (replicate (length cls) 0) (replicate (length ent) 0) ≡ check L ws0 ws1 cls ent
+      pub graph-done : a ≡ forms → isAccepted a ≡ false → result a cleared ≡ check L ws0 ws1 cls ent
       graph-done e n =
           zeroed (whole-is ∙ rw (c, rw e at n) (sym e)) n
           (rw e (keeps-graphs (L .source) (L .target) (sourceIll (L .source)) (targetIll (L .target))))
 
       module _ (g : isAccepted forms ≡ true) where
-        pub match-done : a ≡ matching → isAccepted a ≡ false
-            → outcome a (replicate (length ws0) 0) (replicate (length ws1) 0) (replicate (length cls) 0) (replicate (length ent) 0) ≡ check L ws0 ws1 cls ent
+        pub match-done : a ≡ matching → isAccepted a ≡ false → result a cleared ≡ check L ws0 ws1 cls ent
         match-done e n = zeroed (whole-is ∙ rw (c, g) (sym e)) n (rw e (keeps-match L))
 
         pub accept-done : a ≡ matching → isAccepted a ≡ true
-            → outcome a (widthsOfSource L ++ replicate (length ws0 - sourceRows L) 0) (widthsOfTarget L ++ replicate (length ws1 - targetRows L) 0)
-            (classes L (sourceRows L) ++ replicate (length cls - targetRows L) 0) (offsets L ++ replicate (length ent - targetRows L) 0)
+            → result a ((widthsOfSource L ++ replicate (length ws0 - sourceRows L) 0) ∷ (widthsOfTarget L ++ replicate (length ws1 - targetRows L) 0)
+            ∷ (classes L (sourceRows L) ++ replicate (length cls - targetRows L) 0) ∷ (offsets L ++ replicate (length ent - targetRows L) 0) ∷ [])
             ≡ check L ws0 ws1 cls ent
         accept-done e n =
-            settle a _ _ _ _ (whole-is ∙ rw (c, g) (sym e)) (rw (n, width-count Source (length (L .source .bits)) (L .source .side) (L .source .rows)))
-            (rw (n, width-count Target (length (L .target .bits)) [] (L .target .rows))) (rw (n, class-count)) (rw (n, offset-count))
+            let s = width-count Source (length (L .source .bits)) (L .source .side) (L .source .rows) in
+            let t = width-count Target (length (L .target .bits)) [] (L .target .rows) in
+            settle a _ (whole-is ∙ rw (c, g) (sym e)) (rw (n, s, t, class-count, offset-count))
           where
             class-count : length (classes L (sourceRows L)) ≡ targetRows L
             class-count =
@@ -144,8 +149,9 @@ module _ (L : Lowering) (ws0 ws1 cls ent : List ℕ) where
         target-formed = well-formed Target (length (L .target .bits)) [] (L .target .rows) (no-stop-target (L .source) (L .target) (sourceIll (L .source)) (targetIll (L .target)) g);
       }
 
--- an outcome by its lists
-pub by-lists : (a : Answer) (x0 x1 x2 x3 y0 y1 y2 y3 : List ℕ) (z : Outcome) → x0 ≡ y0 → x1 ≡ y1 → x2 ≡ y2 → x3 ≡ y3 → outcome a y0 y1 y2 y3 ≡ z → outcome a x0 x1 x2 x3 ≡ z
+-- a result by its lists
+pub by-lists : (a : Answer) (x0 x1 x2 x3 y0 y1 y2 y3 : List ℕ) (z : Result) → x0 ≡ y0 → x1 ≡ y1 → x2 ≡ y2 → x3 ≡ y3
+    → result a (y0 ∷ y1 ∷ y2 ∷ y3 ∷ []) ≡ z → result a (x0 ∷ x1 ∷ x2 ∷ x3 ∷ []) ≡ z
 by-lists a x0 x1 x2 x3 y0 y1 y2 y3 z e f g h k = rw (e, f, g, h) k
 
 -- so many zeros

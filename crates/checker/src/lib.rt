@@ -1,7 +1,9 @@
 // The operation Check.
 ghost use mathlib.Core.Path.{_≡_};
+ghost use mathlib.Core.List.{[], _∷_};
+ghost use Rattle.answers.specs.Result.{result};
 ghost use Rattle.lowering.specs.Lowering.{lowering};
-ghost use Rattle.lowering.specs.Check.{outcome, check};
+ghost use Rattle.lowering.specs.Check.{check};
 use answers::Answer;
 use rows::Graph;
 
@@ -24,7 +26,7 @@ pub fn check(
     cls: &mut [u64],
     ent: &mut [u64],
 ) -> Answer
-    ensures outcome { λ r. ⌜ outcome r (now (ws0 .exit)) (now (ws1 .exit)) (now (cls .exit)) (now (ent .exit))
+    ensures outcome { λ r. ⌜ result r (now (ws0 .exit) ∷ now (ws1 .exit) ∷ now (cls .exit) ∷ now (ent .exit) ∷ [])
         ≡ check (lowering (now (source .entry)) (now (ebits .entry)) (now (eside .entry)) (now (eroots .entry)) (now (map .entry))
         (now (reads .entry)) (now (calls .entry)) (now (cargs .entry)) (now (target .entry)) (now (tbits .entry)) (now (troots .entry)))
         (now (ws0 .entry)) (now (ws1 .entry)) (now (cls .entry)) (now (ent .entry)) ⌝ }

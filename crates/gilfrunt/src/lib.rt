@@ -5,7 +5,6 @@ ghost use Rattle.answers.specs.Answer.{wordsOf};
 ghost use Rattle.answers.specs.Result.{told, toldOf};
 ghost use Rattle.widths.specs.Widths.{sourceWidths, targetWidths, rootsAnswer};
 ghost use Rattle.values.specs.Values.{values};
-ghost use Rattle.gilfrunt.specs.Exports.{checked, checkedOf, judgement, judgementOf};
 ghost use Rattle.book.specs.Book.{sectionAnswer, sectionPlace};
 ghost use Rattle.loaded.specs.Held.{held};
 ghost use Rattle.judge.specs.Judge.{judge};
@@ -75,10 +74,10 @@ pub extern "C" fn gilfrunt_check(
     classes: &mut [u64],
     entries: &mut [u64],
 ) -> Words
-    ensures outcome { λ r. ⌜ checked r (now (ws0 .exit)) (now (ws1 .exit)) (now (classes .exit)) (now (entries .exit)) ≡ checkedOf (check (lowering
-        (now (source .entry)) (now (ebits .entry)) (now (eside .entry)) (now (eroots .entry)) (now (map .entry)) (now (reads .entry))
-        (now (calls .entry)) (now (cargs .entry)) (now (target .entry)) (now (tbits .entry)) (now (troots .entry))) (now (ws0 .entry))
-        (now (ws1 .entry)) (now (classes .entry)) (now (entries .entry))) ⌝ }
+    ensures outcome { λ r. ⌜ told r (now (ws0 .exit) ∷ now (ws1 .exit) ∷ now (classes .exit) ∷ now (entries .exit) ∷ [])
+        ≡ toldOf (check (lowering (now (source .entry)) (now (ebits .entry)) (now (eside .entry)) (now (eroots .entry)) (now (map .entry))
+        (now (reads .entry)) (now (calls .entry)) (now (cargs .entry)) (now (target .entry)) (now (tbits .entry)) (now (troots .entry)))
+        (now (ws0 .entry)) (now (ws1 .entry)) (now (classes .entry)) (now (entries .entry))) ⌝ }
     ensures sound { λ r. ⌜ (r .number ≡ 0 → Sound (lowering (now (source .entry)) (now (ebits .entry)) (now (eside .entry)) (now (eroots .entry))
         (now (map .entry)) (now (reads .entry)) (now (calls .entry)) (now (cargs .entry)) (now (target .entry)) (now (tbits .entry))
         (now (troots .entry)))) ⌝ }
@@ -127,8 +126,8 @@ pub extern "C" fn gilfrunt_judge(
     entries: &mut [u64],
     words: &mut [u64],
 ) -> Words
-    ensures outcome { λ r. ⌜ judgement r (now (ws0 .exit)) (now (ws1 .exit)) (now (classes .exit)) (now (entries .exit)) (now (words .exit))
-        ≡ judgementOf (judge (now (book .entry)) (now (ws0 .entry)) (now (ws1 .entry)) (now (classes .entry)) (now (entries .entry))
+    ensures outcome { λ r. ⌜ told r (now (ws0 .exit) ∷ now (ws1 .exit) ∷ now (classes .exit) ∷ now (entries .exit) ∷ now (words .exit) ∷ [])
+        ≡ toldOf (judge (now (book .entry)) (now (ws0 .entry)) (now (ws1 .entry)) (now (classes .entry)) (now (entries .entry))
         (now (words .entry))) ⌝ }
     ensures sound { λ r. ⌜ (r .number ≡ 0 → Sound (held (now (book .entry)))) ⌝ }
 {

@@ -1,23 +1,23 @@
 -- The outcome of a book's verdict, refusal by refusal. Assumes nothing.
 use Prim.Native.Nat.{ℕ, _+_, _-_, _≤_}
-use mathlib.Core.Path.{_≡_, refl, sym, ap, _∙_}
+use mathlib.Core.Path.{_≡_, refl, sym, ap, ap₂, _∙_}
 use mathlib.Core.Bool.{Bool, true, false, cond}
-use mathlib.Core.List.{List, _++_}
+use mathlib.Core.List.{List, [], _∷_, _++_}
 use borrow.Author.Tests.{ltb-false}
 use lib.Dec.{eqb, ltb}
 use lib.ListN.{length, replicate}
 use Rattle.answers.specs.declared.Answer.{Answer}
 use Rattle.answers.specs.declared.Answer.the-variants.{Accepted, WorkShort, BookShape}
-use Rattle.answers.specs.Answer.{isAccepted, keeps, lent, andThen}
+use Rattle.answers.specs.Answer.{isAccepted, keeps, andThen}
+use Rattle.answers.specs.Result.{Result, result, left, leaves}
 use Rattle.lists.proofs.Choice.{no-way}
-use Rattle.lowering.specs.Lowering.{sourceRows}
-use Rattle.lowering.specs.Check.{widthsOfSource, widthsOfTarget, classes, offsets, refuse, firstRefusal, countAnswers, checkAnswer, Outcome, outcome, check}
+use Rattle.lowering.specs.Check.{refuse, firstRefusal, countAnswers, checkAnswer, check}
 use Rattle.checker.proofs.Keeps.{keeps-count}
-use Rattle.checker.proofs.Outcome.{keeps-rest}
+use Rattle.checker.proofs.Outcome.{four, keeps-rest}
 use Rattle.contents.specs.Contents.{sections, contents}
 use Rattle.book.specs.Book.{dueAt, firstBad, bookAnswer}
 use Rattle.loaded.specs.Held.{held, bookWords}
-use Rattle.judge.specs.Judge.{judgeAnswer, Judged, judged, judge}
+use Rattle.judge.specs.Judge.{judgeAnswer, judge}
 
 -- 20 is not among the refusals that write nothing
 keeps-book : (b : List ℕ) → keeps (bookAnswer b) ≡ false
@@ -60,19 +60,21 @@ module _ (b ws0 ws1 cls ent words : List ℕ) where
   abbrev whole : Answer
   whole = judgeAnswer b (length ws0) (length ws1) (length cls) (length ent) (length words)
 
-  settle : (a : Answer) (x0 x1 x2 x3 x4 : List ℕ) → whole ≡ a → lent a ws0 (widthsOfSource (held b)) ≡ x0 → lent a ws1 (widthsOfTarget (held b)) ≡ x1
-      → lent a cls (classes (held b) (sourceRows (held b))) ≡ x2 → lent a ent (offsets (held b)) ≡ x3 → lent a words (bookWords b) ≡ x4
-      → judged a x0 x1 x2 x3 x4 ≡ judge b ws0 ws1 cls ent words
-  settle a x0 x1 x2 x3 x4 e f g h k l = sym (rw (e, f, g, h, k, l))
+  -- Check's lists and the book's words, with what acceptance writes
+  abbrev five : List (List ℕ × List ℕ)
+  five = four (held b) ws0 ws1 cls ent ++ ((words, bookWords b) ∷ [])
+
+  settle : (a : Answer) (lists : List (List ℕ)) → whole ≡ a → left a five ≡ lists → result a lists ≡ judge b ws0 ws1 cls ent words
+  settle a lists e f = sym (ap (λ (z : Answer). leaves z five) e ∙ ap (result a) f)
 
   module _ (a : Answer) where
     pub shape-done : a ≡ bookAnswer b → isAccepted a ≡ false
-        → judged a (replicate (length ws0) 0) (replicate (length ws1) 0) (replicate (length cls) 0) (replicate (length ent) 0) (replicate (length words) 0)
+        → result a (replicate (length ws0) 0 ∷ replicate (length ws1) 0 ∷ replicate (length cls) 0 ∷ replicate (length ent) 0 ∷ replicate (length words) 0 ∷ [])
         ≡ judge b ws0 ws1 cls ent words
     shape-done e n =
         let r : isAccepted (bookAnswer b) ≡ false = rw e at n in
         let k : keeps a ≡ false = rw e (keeps-book b) in
-        settle a _ _ _ _ _ (rw r (sym e)) (rw (n, k)) (rw (n, k)) (rw (n, k)) (rw (n, k)) (rw (n, k))
+        settle a _ (rw r (sym e)) (rw (n, k))
 
     module _ (g : isAccepted (bookAnswer b) ≡ true) where
       room-keeps : isAccepted room ≡ false → keeps room ≡ true
@@ -86,34 +88,29 @@ module _ (b ws0 ws1 cls ent words : List ℕ) where
               short-keeps false m = no-way m
           go false e m = keeps-count (held b .source) (held b .target) (length ws0) (length ws1) (length cls) (length ent) e
 
-      pub room-done : a ≡ room → isAccepted a ≡ false → judged a ws0 ws1 cls ent words ≡ judge b ws0 ws1 cls ent words
+      pub room-done : a ≡ room → isAccepted a ≡ false → result a (ws0 ∷ ws1 ∷ cls ∷ ent ∷ words ∷ []) ≡ judge b ws0 ws1 cls ent words
       room-done e n =
           let r : isAccepted room ≡ false = rw e at n in
           let k : keeps a ≡ true = rw e (room-keeps r) in
-          settle a _ _ _ _ _ (rw g (refuses-one counts short checked r) ∙ sym e) (rw (n, k)) (rw (n, k)) (rw (n, k)) (rw (n, k)) (rw (n, k))
+          settle a _ (rw g (refuses-one counts short checked r) ∙ sym e) (rw (n, k))
 
-      module _ (r : isAccepted room ≡ true) (y0 y1 y2 y3 : List ℕ) (o : outcome a y0 y1 y2 y3 ≡ check (held b) ws0 ws1 cls ent) where
+      module _ (r : isAccepted room ≡ true) (lists : List (List ℕ)) (o : result a lists ≡ check (held b) ws0 ws1 cls ent) where
         is-checked : a ≡ checked
-        is-checked = ap (λ (z : Outcome). z .answer) o
+        is-checked = ap (λ (z : Result). z .answer) o
 
         whole-checked : whole ≡ a
         whole-checked = let p = accepts-both counts short r in rw (g, p .0, p .1) (sym is-checked)
 
-        words-done : (x4 : List ℕ) → lent a words (bookWords b) ≡ x4 → judged a y0 y1 y2 y3 x4 ≡ judge b ws0 ws1 cls ent words
-        words-done x4 l =
-            settle a y0 y1 y2 y3 x4 whole-checked
-            (ap (λ (z : Answer). lent z ws0 (widthsOfSource (held b))) is-checked ∙ sym (ap (λ (z : Outcome). z .source-widths) o))
-            (ap (λ (z : Answer). lent z ws1 (widthsOfTarget (held b))) is-checked ∙ sym (ap (λ (z : Outcome). z .target-widths) o))
-            (ap (λ (z : Answer). lent z cls (classes (held b) (sourceRows (held b)))) is-checked ∙ sym (ap (λ (z : Outcome). z .class-list) o))
-            (ap (λ (z : Answer). lent z ent (offsets (held b))) is-checked ∙ sym (ap (λ (z : Outcome). z .entry-list) o)) l
+        left-checked : left a (four (held b) ws0 ws1 cls ent) ≡ lists
+        left-checked = ap (λ (z : Answer). left z (four (held b) ws0 ws1 cls ent)) is-checked ∙ sym (ap (λ (z : Result). z .lists) o)
 
         -- the words stay where Check accepts, and are zeroed where it refuses
-        pub check-done : (x4 : List ℕ)
-            → x4 ≡ cond (isAccepted a) (bookWords b ++ replicate (length words - length (bookWords b)) 0) (replicate (length words) 0)
-            → judged a y0 y1 y2 y3 x4 ≡ judge b ws0 ws1 cls ent words
-        check-done x4 e =
+        pub check-done : (x : List ℕ)
+            → x ≡ cond (isAccepted a) (bookWords b ++ replicate (length words - length (bookWords b)) 0) (replicate (length words) 0)
+            → result a (lists ++ (x ∷ [])) ≡ judge b ws0 ws1 cls ent words
+        check-done x e =
             let k : keeps a ≡ false = rw is-checked (keeps-rest (held b) ws0 ws1 cls ent (accepts-both counts short r .0)) in
-            words-done x4 (rw k (sym e))
+            settle a _ whole-checked (ap₂ (λ (ls : List (List ℕ)) (l : List ℕ). ls ++ (l ∷ [])) left-checked (rw k (sym e)))
 
   -- room for the words
   pub words-fit : isAccepted room ≡ true → length (bookWords b) ≤ length words
@@ -123,9 +120,9 @@ module _ (b ws0 ws1 cls ent words : List ℕ) where
       go true e n = no-way (sym n)
       go false e n = ltb-false _ _ e
 
--- an outcome by its lists
-pub by-lists : (a : Answer) (x0 x1 x2 x3 x4 y0 y1 y2 y3 y4 : List ℕ) (z : Judged) → x0 ≡ y0 → x1 ≡ y1 → x2 ≡ y2 → x3 ≡ y3 → x4 ≡ y4
-    → judged a y0 y1 y2 y3 y4 ≡ z → judged a x0 x1 x2 x3 x4 ≡ z
+-- a result by its lists
+pub by-lists : (a : Answer) (x0 x1 x2 x3 x4 y0 y1 y2 y3 y4 : List ℕ) (z : Result) → x0 ≡ y0 → x1 ≡ y1 → x2 ≡ y2 → x3 ≡ y3 → x4 ≡ y4
+    → result a (y0 ∷ y1 ∷ y2 ∷ y3 ∷ y4 ∷ []) ≡ z → result a (x0 ∷ x1 ∷ x2 ∷ x3 ∷ x4 ∷ []) ≡ z
 by-lists a x0 x1 x2 x3 x4 y0 y1 y2 y3 y4 z e f g h l k = rw (e, f, g, h, l) k
 
 -- the words by the test as the code made it, in a list as long as it was lent

@@ -1,12 +1,13 @@
 -- The verdict on a book (01, 'Section of a book'). Assumes nothing.
 use Prim.Native.Nat.{ℕ}
 use mathlib.Core.Bool.{cond}
-use mathlib.Core.List.{List}
+use mathlib.Core.List.{List, [], _∷_}
 use lib.Dec.{ltb}
 use lib.ListN.{length}
 use Rattle.answers.specs.declared.Answer.{Answer}
 use Rattle.answers.specs.declared.Answer.the-variants.{WorkShort, BookShape}
-use Rattle.answers.specs.Answer.{andThen, lent}
+use Rattle.answers.specs.Answer.{andThen}
+use Rattle.answers.specs.Result.{Result, leaves}
 use Rattle.book.specs.Book.{bookAnswer}
 use Rattle.loaded.specs.Held.{held, bookWords}
 use Rattle.lowering.specs.Lowering.{sourceRows, targetRows}
@@ -20,27 +21,14 @@ judgeAnswer b w0 w1 c e room =
     (andThen (firstRefusal (countAnswers (held b .source) (held b .target) w0 w1 c e))
     (andThen (refuse (ltb room (length (bookWords b))) (WorkShort 5)) (checkAnswer (held b) w0 w1 c e)))
 
--- an answer and what stands in the five lent lists afterwards
-pub record Judged : Type 0 where
-  pub answer : Answer
-  pub source-widths : List ℕ
-  pub target-widths : List ℕ
-  pub class-list : List ℕ
-  pub entry-list : List ℕ
-  pub word-list : List ℕ
-
-abbrev pub judged : Answer → List ℕ → List ℕ → List ℕ → List ℕ → List ℕ → Judged
-judged a ws0 ws1 cls ent words =
-    record { answer = a; source-widths = ws0; target-widths = ws1; class-list = cls; entry-list = ent; word-list = words }
-
 -- "15 and 18 write nothing, other refusals zero all that is lent for writing; acceptance leaves zeros past what it wrote": Check's lists and the
 -- book's words
-abbrev pub judge : List ℕ → List ℕ → List ℕ → List ℕ → List ℕ → List ℕ → Judged
+abbrev pub judge : List ℕ → List ℕ → List ℕ → List ℕ → List ℕ → List ℕ → Result
 judge b ws0 ws1 cls ent words =
     let a = judgeAnswer b (length ws0) (length ws1) (length cls) (length ent) (length words) in
     let L = held b in
-    judged a (lent a ws0 (widthsOfSource L)) (lent a ws1 (widthsOfTarget L)) (lent a cls (classes L (sourceRows L))) (lent a ent (offsets L))
-    (lent a words (bookWords b))
+    leaves a
+    ((ws0, widthsOfSource L) ∷ (ws1, widthsOfTarget L) ∷ (cls, classes L (sourceRows L)) ∷ (ent, offsets L) ∷ (words, bookWords b) ∷ [])
 
 -- "reads a book of at most 65,536 bytes from standard input (longer: 20, place 13)"
 abbrev pub longest : ℕ

@@ -1,10 +1,12 @@
 // The verdict on a book: Check on the lists that it holds.
 ghost use mathlib.Core.Path.{_≡_};
 ghost use mathlib.Core.Bool.{true};
+ghost use mathlib.Core.List.{[], _∷_};
 ghost use Rattle.answers.specs.Answer.{isAccepted};
+ghost use Rattle.answers.specs.Result.{result};
 ghost use Rattle.soundness.specs.Sound.{Sound};
 ghost use Rattle.loaded.specs.Held.{held};
-ghost use Rattle.judge.specs.Judge.{judged, judge, verdict};
+ghost use Rattle.judge.specs.Judge.{judge, verdict};
 use answers::Answer;
 
 // A book's verdict: 20, or Check's answer on the lists that it holds; in the five lists the widths of both graphs, the classes, the entry offsets and
@@ -17,8 +19,8 @@ pub fn judge(
     ent: &mut [u64],
     words: &mut [u64],
 ) -> Answer
-    ensures outcome { λ r. ⌜ judged r (now (ws0 .exit)) (now (ws1 .exit)) (now (cls .exit)) (now (ent .exit)) (now (words .exit)) ≡ judge
-        (now (book .entry)) (now (ws0 .entry)) (now (ws1 .entry)) (now (cls .entry)) (now (ent .entry)) (now (words .entry)) ⌝ }
+    ensures outcome { λ r. ⌜ result r (now (ws0 .exit) ∷ now (ws1 .exit) ∷ now (cls .exit) ∷ now (ent .exit) ∷ now (words .exit) ∷ [])
+        ≡ judge (now (book .entry)) (now (ws0 .entry)) (now (ws1 .entry)) (now (cls .entry)) (now (ent .entry)) (now (words .entry)) ⌝ }
 {
     let shape = book::book_answer(book);
     if !answers::is_accepted(shape) {

@@ -9,8 +9,9 @@ use lib.ListN.{length}
 use Rattle.answers.specs.declared.Answer.{Answer}
 use Rattle.answers.specs.declared.Answer.the-variants.{Accepted, WorkShort}
 use Rattle.answers.specs.Answer.{isAccepted, andThen}
+use Rattle.answers.specs.Result.{Result}
 use Rattle.lowering.specs.Lowering.{Lowering, lowering}
-use Rattle.lowering.specs.Check.{refuse, firstRefusal, countAnswers, Outcome, check}
+use Rattle.lowering.specs.Check.{refuse, firstRefusal, countAnswers, check}
 use Rattle.book.specs.Book.{body}
 use Rattle.bodies.specs.Words.{listOf}
 use Rattle.loaded.specs.Held.{held, bookWords}
@@ -34,7 +35,7 @@ module _ (b : List ℕ) (w0 w1 c e words : ℕ) (a : Answer) (q : a ≡ firstRef
     room-good h = rw (counted, sym l, le-ltb _ _ h)
 
 -- Check on eleven lists that are a book's
-pub held-by : (b x0 x1 x2 x3 x4 x5 x6 x7 x8 x9 x10 ws0 ws1 cls ent : List ℕ) (o : Outcome) → x0 ≡ listOf b 0 → x1 ≡ body b 1 → x2 ≡ listOf b 2 → x3 ≡ listOf b 3
+pub held-by : (b x0 x1 x2 x3 x4 x5 x6 x7 x8 x9 x10 ws0 ws1 cls ent : List ℕ) (o : Result) → x0 ≡ listOf b 0 → x1 ≡ body b 1 → x2 ≡ listOf b 2 → x3 ≡ listOf b 3
     → x4 ≡ listOf b 4 → x5 ≡ listOf b 5 → x6 ≡ listOf b 6 → x7 ≡ listOf b 7 → x8 ≡ listOf b 8 → x9 ≡ body b 9 → x10 ≡ listOf b 10
     → o ≡ check (lowering x0 x1 x2 x3 x4 x5 x6 x7 x8 x9 x10) ws0 ws1 cls ent → o ≡ check (held b) ws0 ws1 cls ent
 held-by b x0 x1 x2 x3 x4 x5 x6 x7 x8 x9 x10 ws0 ws1 cls ent o e0 e1 e2 e3 e4 e5 e6 e7 e8 e9 e10 q =

@@ -1,14 +1,15 @@
 // Check on the lists that a book of good shape holds, once its words stand in a list.
 ghost use mathlib.Core.Path.{_≡_};
-ghost use mathlib.Core.List.{_++_};
+ghost use mathlib.Core.List.{[], _∷_, _++_};
 ghost use lib.Dec.{ltb};
 ghost use lib.ListN.{length, drop};
 ghost use Rattle.contents.specs.Contents.{sections};
 ghost use Rattle.book.specs.Good.{Good};
 ghost use Rattle.bodies.specs.Words.{loaded};
 ghost use Rattle.answers.specs.Answer.{andThen};
+ghost use Rattle.answers.specs.Result.{result};
 ghost use Rattle.answers.specs.declared.Answer.the-variants.{WorkShort};
-ghost use Rattle.lowering.specs.Check.{outcome, check, refuse, firstRefusal, countAnswers};
+ghost use Rattle.lowering.specs.Check.{check, refuse, firstRefusal, countAnswers};
 ghost use Rattle.loaded.specs.Held.{held, bookWords};
 use answers::Answer;
 
@@ -46,8 +47,8 @@ pub fn check_loaded(
 ) -> Answer
     requires { ⌜ Good (now book) ⌝ }
     requires { ⌜ now words ≡ loaded (now book) sections ++ drop (length (loaded (now book) sections)) (now words) ⌝ }
-    ensures outcome { λ r. ⌜ outcome r (now (ws0 .exit)) (now (ws1 .exit)) (now (cls .exit)) (now (ent .exit)) ≡ check (held (now (book .entry)))
-        (now (ws0 .entry)) (now (ws1 .entry)) (now (cls .entry)) (now (ent .entry)) ⌝ }
+    ensures outcome { λ r. ⌜ result r (now (ws0 .exit) ∷ now (ws1 .exit) ∷ now (cls .exit) ∷ now (ent .exit) ∷ [])
+        ≡ check (held (now (book .entry))) (now (ws0 .entry)) (now (ws1 .entry)) (now (cls .entry)) (now (ent .entry)) ⌝ }
 {
     checker::check(
         bodies::list_at(book, words, 0),

@@ -5,6 +5,7 @@ use mathlib.Core.List.{List, [], _∷_}
 use Rattle.answers.specs.declared.Words.{Words}
 use Rattle.answers.specs.declared.Answer.the-variants.{Accepted, ChainMismatch, WorkShort}
 use Rattle.answers.specs.Answer.{words, wordsOf}
+use Rattle.answers.specs.Result.{Result, result}
 use Rattle.bv.specs.Bits.{ofBits}
 use Rattle.bv.specs.Bv.{bvsdiv, bvsrem, bvrotr, rotate-right}
 use Rattle.lists.specs.Build.{build}
@@ -16,7 +17,7 @@ use Rattle.lowering.specs.Tables.{sameRead, sameFunction, sameCall, read
 use Rattle.lowering.specs.Matching.{isEq, isLevel, walk, endGood, callMatches, varMatches, nodeMatches, rowAnswer, rowClasses}
 use Rattle.lowering.specs.Roots.{leads, pairsWith, pairs, readsNeed, allEqual, congruent, rootAt}
 use Rattle.lowering.specs.Lowering.{Lowering, lowering}
-use Rattle.lowering.specs.Check.{Outcome, outcome, firstRefusal, check, checkAnswer}
+use Rattle.lowering.specs.Check.{firstRefusal, check, checkAnswer}
 
 -- rows, one after the other
 abbrev s5 : ℕ → ℕ → ℕ → ℕ → ℕ → List ℕ → List ℕ
@@ -40,7 +41,10 @@ base eroots map reads troots =
 abbrev nines : List ℕ
 nines = 9 ∷ 9 ∷ 9 ∷ 9 ∷ []
 
-abbrev lent-nines : Lowering → List ℕ → Outcome
+abbrev zeros : List ℕ
+zeros = 0 ∷ 0 ∷ 0 ∷ 0 ∷ []
+
+abbrev lent-nines : Lowering → List ℕ → Result
 lent-nines L entries = check L nines nines nines entries
 
 -- 1. "Base: accepted, classes 1,4,0", with all four lists; then a refusal that zeroes them and one that writes nothing
@@ -48,9 +52,9 @@ cases-1 : lent-nines (base (2 ∷ []) (0 ∷ 1 ∷ 2 ∷ []) (1 ∷ 7 ∷ 0 ∷ 
     ∷ lent-nines (base (2 ∷ []) (0 ∷ 1 ∷ 2 ∷ []) [] (2 ∷ [])) nines
     ∷ lent-nines (base (2 ∷ []) (0 ∷ 1 ∷ 2 ∷ []) (1 ∷ 7 ∷ 0 ∷ []) (2 ∷ [])) (9 ∷ 9 ∷ [])
     ∷ []
-    ≡ outcome Accepted (32 ∷ 8 ∷ 1 ∷ 0 ∷ []) (32 ∷ 8 ∷ 1 ∷ 0 ∷ []) (1 ∷ 4 ∷ 0 ∷ 0 ∷ []) (0 ∷ 0 ∷ 0 ∷ 0 ∷ [])
-    ∷ outcome (ChainMismatch 1) (0 ∷ 0 ∷ 0 ∷ 0 ∷ []) (0 ∷ 0 ∷ 0 ∷ 0 ∷ []) (0 ∷ 0 ∷ 0 ∷ 0 ∷ []) (0 ∷ 0 ∷ 0 ∷ 0 ∷ [])
-    ∷ outcome (WorkShort 4) nines nines nines (9 ∷ 9 ∷ [])
+    ≡ result Accepted ((32 ∷ 8 ∷ 1 ∷ 0 ∷ []) ∷ (32 ∷ 8 ∷ 1 ∷ 0 ∷ []) ∷ (1 ∷ 4 ∷ 0 ∷ 0 ∷ []) ∷ zeros ∷ [])
+    ∷ result (ChainMismatch 1) (zeros ∷ zeros ∷ zeros ∷ zeros ∷ [])
+    ∷ result (WorkShort 4) (nines ∷ nines ∷ nines ∷ (9 ∷ 9 ∷ []) ∷ [])
     ∷ []
 unfolding firstRefusal build first all agree trace rowIs bothConst sameConst unequalConst sameRead sameFunction sameCall readGood callGood isEq isLevel walk endGood callMatches varMatches nodeMatches rowAnswer rowClasses leads pairsWith pairs readsNeed allEqual congruent rootAt
 cases-1 = refl

@@ -7,7 +7,8 @@ use lib.ListN.{length, replicate}
 use Rattle.answers.specs.declared.Answer.{Answer}
 use Rattle.answers.specs.declared.Answer.the-variants.{Accepted, Ext, Core, RowCount, BadRow, BadBit, WorkShort, MapLength, ReadTable, CallTable}
 use Rattle.answers.specs.declared.Answer.the-variants.{DeadEntry, RootMismatch, CongruenceMismatch}
-use Rattle.answers.specs.Answer.{isAccepted, lent}
+use Rattle.answers.specs.Answer.{isAccepted}
+use Rattle.answers.specs.Result.{Result, leaves}
 use Rattle.rows.specs.declared.Graph.the-variants.{Source, Target}
 use Rattle.rows.specs.Row.{rowCount, ragged}
 use Rattle.encoding.specs.Encoding.{badRow, badBit}
@@ -149,20 +150,9 @@ checkAnswer L w0 w1 c e =
     (countAnswers (L .source) (L .target) w0 w1 c e
     ++ (graphAnswers (L .source) (L .target) (sourceIll (L .source)) (targetIll (L .target)) ++ matchAnswers L))
 
--- an answer and what stands in the four lent lists afterwards
-pub record Outcome : Type 0 where
-  pub answer : Answer
-  pub source-widths : List ℕ
-  pub target-widths : List ℕ
-  pub class-list : List ℕ
-  pub entry-list : List ℕ
-
-abbrev pub outcome : Answer → List ℕ → List ℕ → List ℕ → List ℕ → Outcome
-outcome a ws0 ws1 cls ent = record { answer = a; source-widths = ws0; target-widths = ws1; class-list = cls; entry-list = ent }
-
 -- "15 and 18 write nothing; any other refusal zeroes all four lists. Acceptance leaves widths, classes and entry offsets .., zeros after the last
 -- row"
-abbrev pub check : Lowering → List ℕ → List ℕ → List ℕ → List ℕ → Outcome
+abbrev pub check : Lowering → List ℕ → List ℕ → List ℕ → List ℕ → Result
 check L ws0 ws1 cls ent =
     let a = checkAnswer L (length ws0) (length ws1) (length cls) (length ent) in
-    outcome a (lent a ws0 (widthsOfSource L)) (lent a ws1 (widthsOfTarget L)) (lent a cls (classes L (sourceRows L))) (lent a ent (offsets L))
+    leaves a ((ws0, widthsOfSource L) ∷ (ws1, widthsOfTarget L) ∷ (cls, classes L (sourceRows L)) ∷ (ent, offsets L) ∷ [])

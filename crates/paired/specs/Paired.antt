@@ -2,14 +2,14 @@
 use Prim.Native.Nat.{ℕ}
 use mathlib.Core.Path.{_≡_}
 use mathlib.Core.Bool.{true}
-use mathlib.Core.List.{List}
+use mathlib.Core.List.{List, [], _∷_}
+use Rattle.answers.specs.Result.{Result, told, toldOf}
 use Rattle.lowering.specs.Lowering.{lowering}
-use Rattle.lowering.specs.Check.{Outcome, check}
-use Rattle.gilfrunt.specs.Exports.{checked, checkedOf}
+use Rattle.lowering.specs.Check.{check}
 use Rattle.cases.specs.Case.{given, answer, expected, hasShape}
 
 -- Check on a case's lists, with these bits and lent lists
-abbrev pub checkOf : List ℕ → List ℕ → List ℕ → List ℕ → List ℕ → List ℕ → List ℕ → Outcome
+abbrev pub checkOf : List ℕ → List ℕ → List ℕ → List ℕ → List ℕ → List ℕ → List ℕ → Result
 checkOf w ebits tbits ws0 ws1 classes entries =
     check
     (lowering (given w 0) ebits (given w 2) (given w 3) (given w 4) (given w 5) (given w 6) (given w 7) (given w 8) tbits (given w 10))
@@ -17,7 +17,7 @@ checkOf w ebits tbits ws0 ws1 classes entries =
 
 abbrev pub SameCheck : List ℕ → List ℕ → List ℕ → List ℕ → List ℕ → List ℕ → List ℕ → Type 0
 SameCheck w ebits tbits ws0 ws1 classes entries =
-    checkedOf (checkOf w ebits tbits ws0 ws1 classes entries) ≡ checked (answer w) (expected w 0) (expected w 1) (expected w 2) (expected w 3)
+    toldOf (checkOf w ebits tbits ws0 ws1 classes entries) ≡ told (answer w) (expected w 0 ∷ expected w 1 ∷ expected w 2 ∷ expected w 3 ∷ [])
 
 -- the bits are lists 1 and 9, the lent lists are 11 to 14
 abbrev pub CheckAgrees : List ℕ → Type 0

@@ -1,9 +1,10 @@
 // Check, the operation on two graphs: takes its lists from a case, calls the library, and compares the outcome.
 ghost use mathlib.Core.Path.{_≡_};
 ghost use mathlib.Core.Bool.{true};
+ghost use mathlib.Core.List.{[], _∷_};
 ghost use Prim.Native.Nat.{_≤_};
 ghost use lib.ListN.{length};
-ghost use Rattle.gilfrunt.specs.Exports.{checked, checkedOf};
+ghost use Rattle.answers.specs.Result.{told, toldOf};
 ghost use Rattle.cases.specs.Case.{room, given};
 ghost use Rattle.paired.specs.Paired.{checkOf, SameCheck, CheckAgrees};
 use answers::Words;
@@ -17,8 +18,8 @@ fn call_check(
     classes: &mut [u64],
     entries: &mut [u64],
 ) -> Words
-    ensures outcome { λ r. ⌜ checked r (now (ws0 .exit)) (now (ws1 .exit)) (now (classes .exit)) (now (entries .exit))
-        ≡ checkedOf (checkOf (now (words .entry)) (now (ebits .entry)) (now (tbits .entry))
+    ensures outcome { λ r. ⌜ told r (now (ws0 .exit) ∷ now (ws1 .exit) ∷ now (classes .exit) ∷ now (entries .exit) ∷ [])
+        ≡ toldOf (checkOf (now (words .entry)) (now (ebits .entry)) (now (tbits .entry))
         (now (ws0 .entry)) (now (ws1 .entry)) (now (classes .entry)) (now (entries .entry))) ⌝ }
 {
     gilfrunt::gilfrunt_check(

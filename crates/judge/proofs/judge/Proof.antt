@@ -133,7 +133,7 @@ returns-3 c =
     let l = load-of k in
     let e = l .before .before in
     let s = entry (shaped e) .args in
-    check-done (s .book .now) (s .ws0 .now) (s .ws1 .now) (s .cls .now) (s .ent .now) (s .words .now) _ (good (shaped e)) (roomy e) _ _ _ _ (k .check-loaded .ensures) _
+    check-done (s .book .now) (s .ws0 .now) (s .ws1 .now) (s .cls .now) (s .ent .now) (s .words .now) _ (good (shaped e)) (roomy e) _ (k .check-loaded .ensures) _
     (words-left (s .book .now) _ _ _ _ (length (s .words .now)) (c .before .before .leave .ensures) (a .is-accepted3 .ensures) (l .load .kept .1 .0))
 
 pub judge-spec : {M : Type 1} → statement M

@@ -1,7 +1,7 @@
 -- A book that is short enough has room in lists of these lengths; so has its target, which makes acceptance sound. Assumes nothing.
 use mathlib.Core.Path.{ap, _∙_}
 use native.Mathlib.Omega.{arith}
-use Rattle.judge.specs.Judge.{Judged}
+use Rattle.answers.specs.Result.{Result}
 use Rattle.judge.proofs.Room.{too-long, verdict-is}
 use Rattle.judge.proofs.Sound.{verdict-sound}
 use borrow.Author.Needs.{needs}
@@ -37,7 +37,7 @@ returns-2 c =
     let k = c .before .before .before .before .before in
     let t = k .before .before .before .before .before .before in
     let s = t .before .before in
-    let e = ap (λ (o : Judged). o .answer) (k .judge .ensures) ∙ verdict-is (s .args .book .now) _ _ _ _ _ (omega arith) (omega arith) (omega arith) (omega arith) (omega arith) (t .if1 .left) in
+    let e = ap (λ (o : Result). o .answer) (k .judge .ensures) ∙ verdict-is (s .args .book .now) _ _ _ _ _ (omega arith) (omega arith) (omega arith) (omega arith) (omega arith) (t .if1 .left) in
     (e, verdict-sound (s .args .book .now) (omega (arith, s .good .0)) _ e)
 
 pub verdict-spec : {M : Type 1} → statement M

@@ -1,7 +1,7 @@
 -- The answer and the lists, each by its test. Assumes nothing.
 use mathlib.Core.Bool.{false≢true}
 use borrow.Author.Tests.{not-false}
-use Rattle.paired.proofs.Same.{same-checked}
+use Rattle.paired.proofs.Same.{same-four}
 use borrow.Author.Needs.{needs}
 use Rattle.paired.proofs.same_check.Statement.{statement}
 use Rattle.paired.proofs.same_check.Tie as tie
@@ -67,7 +67,7 @@ returns-3 c =
     let else1 = at-same-both .before .before .before in
     let at-same-answer = else1 .before in
     let at-call-check = at-same-answer .before .before .before .before .before .before .before .before .before in
-    λ e. same-checked (at-call-check .call-check .ensures) (at-same-answer .same-answer .ensures .0 (not-false _ (else1 .if1 .left))) (at-same-both .same-both .ensures (not-false _ (else2 .if2 .left))) (c .same-both2 .ensures e)
+    λ e. same-four (at-call-check .call-check .ensures) (at-same-answer .same-answer .ensures .0 (not-false _ (else1 .if1 .left))) (at-same-both .same-both .ensures (not-false _ (else2 .if2 .left))) (c .same-both2 .ensures e)
 
 pub same-check-spec : {M : Type 1} → statement M
 same-check-spec =
