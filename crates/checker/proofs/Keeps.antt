@@ -10,10 +10,10 @@ use Rattle.answers.specs.declared.Answer.the-variants.{Accepted, RowCount, Work
 use Rattle.answers.specs.Answer.{isAccepted, keeps}
 use Rattle.lists.proofs.Choice.{no-way}
 use Rattle.rows.specs.declared.Graph.the-variants.{Source, Target}
-use Rattle.rows.specs.Row.{rowCount, rowAt, ragged}
+use Rattle.rows.specs.Row.{MAX, rowCount, rowAt, ragged}
 use Rattle.rows.specs.Node.{nodeOf}
 use Rattle.encoding.specs.Encoding.{badRow, badBit}
-use Rattle.lowering.specs.Images.{MAX, mapAt, sameConst}
+use Rattle.lowering.specs.Images.{mapAt, sameConst}
 use Rattle.lowering.specs.Tables.{readCount, callCount, badRead, badCall}
 use Rattle.lowering.specs.Roots.{Pair, badLead, badCong, readPairs, callPairs, readRoot, callRoot}
 use Rattle.lowering.specs.Matching.{Noted, noted, mappedArg, selectWalk, endGood, callMatches, varMatches, nodeMatches, matched}

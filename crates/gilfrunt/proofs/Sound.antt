@@ -9,7 +9,7 @@ use Rattle.answers.specs.declared.Answer.{Answer}
 use Rattle.answers.specs.declared.Words.{Words}
 use Rattle.answers.specs.Answer.{wordsOf, isAccepted}
 use Rattle.answers.specs.Result.{Result, result}
-use Rattle.lowering.specs.Images.{MAX}
+use Rattle.rows.specs.Row.{MAX}
 use Rattle.lowering.specs.Lowering.{Lowering}
 use Rattle.lowering.specs.Check.{check}
 use Rattle.soundness.specs.Sound.{Sound}

@@ -12,10 +12,8 @@ ghost use Rattle.lowering.specs.Matching.{isEq};
 ghost use Rattle.images.specs.Bits.{BitsWithin};
 ghost use Rattle.images.specs.Constants.{constantOf};
 use rows::Graph;
+use rows::MAX;
 use rows::tag;
-
-// No row has this number; a row that is mapped here has no image.
-pub const MAX: u64 = 0xffff_ffff_ffff_ffff;
 
 // The image of row a, MAX past the map.
 pub fn map_at(map: &[u64], a: u64) -> u64

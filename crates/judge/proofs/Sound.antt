@@ -11,7 +11,7 @@ use Rattle.answers.specs.declared.Answer.{Answer}
 use Rattle.answers.specs.declared.Answer.the-variants.{WorkShort, BookShape}
 use Rattle.answers.specs.Answer.{isAccepted, andThen}
 use Rattle.lists.proofs.Choice.{no-way}
-use Rattle.lowering.specs.Images.{MAX}
+use Rattle.rows.specs.Row.{MAX}
 use Rattle.lowering.specs.Lowering.{Lowering, sourceRows, targetRows}
 use Rattle.lowering.specs.Check.{refuse, firstRefusal, countAnswers, checkAnswer}
 use Rattle.soundness.specs.Sound.{Accepts, Sound}

@@ -7,8 +7,8 @@ use borrow.Author.Tests.{lt-ltb, le-ltb}
 use lib.Dec.{eqb, ltb}
 use Rattle.lists.specs.Tests.{all}
 use Rattle.rows.specs.declared.Graph.the-variants.{Target}
-use Rattle.rows.specs.Row.{rowCount}
-use Rattle.lowering.specs.Images.{MAX, tagAt, fieldAt}
+use Rattle.rows.specs.Row.{MAX, rowCount}
+use Rattle.lowering.specs.Images.{tagAt, fieldAt}
 use Rattle.lowering.specs.Matching.{isEq}
 use Rattle.lowering.specs.Roots.{allEqual, congruent}
 use Rattle.images.proofs.Equality.{eq-out}

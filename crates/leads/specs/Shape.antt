@@ -6,9 +6,9 @@ use mathlib.Core.List.{List, [], _∷_}
 use lib.Dec.{eqb, ltb}
 use Rattle.lists.specs.Tests.{all}
 use Rattle.rows.specs.declared.Graph.the-variants.{Target}
-use Rattle.rows.specs.Row.{rowCount}
+use Rattle.rows.specs.Row.{MAX, rowCount}
 use Rattle.rows.specs.Tags.{tNot, tBoolOr}
-use Rattle.lowering.specs.Images.{MAX, tagAt, fieldAt}
+use Rattle.lowering.specs.Images.{tagAt, fieldAt}
 use Rattle.lowering.specs.Matching.{isEq}
 
 -- target row r is BoolOr(Not(some row), Eq(u, v))

@@ -4,8 +4,8 @@ ghost use Prim.Native.Nat.{_<_};
 ghost use lib.ListN.{length};
 ghost use Rattle.lowering.specs.Roots.{badLead, leads};
 ghost use Rattle.leads.specs.Shape.{antecedent};
-use images::MAX;
 use rows::Graph;
+use rows::MAX;
 use rows::tag;
 
 // The image of source root k has its place.

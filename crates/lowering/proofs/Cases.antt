@@ -12,7 +12,8 @@ use Rattle.lists.specs.Build.{build}
 use Rattle.lists.specs.First.{first}
 use Rattle.lists.specs.Tests.{all, agree}
 use Rattle.lists.specs.Trace.{trace}
-use Rattle.lowering.specs.Images.{MAX, rowIs, bothConst, sameConst, unequalConst}
+use Rattle.rows.specs.Row.{MAX}
+use Rattle.lowering.specs.Images.{rowIs, bothConst, sameConst, unequalConst}
 use Rattle.lowering.specs.Tables.{sameRead, sameFunction, sameCall, readGood, callGood}
 use Rattle.lowering.specs.Matching.{isEq, isLevel, walk, endGood, callMatches, varMatches, nodeMatches, rowAnswer, rowClasses}
 use Rattle.lowering.specs.Roots.{leads, pairsWith, pairs, readsNeed, allEqual, congruent, rootAt}

@@ -7,11 +7,11 @@ use lib.Dec.{eqb}
 use lib.ListN.{length, length-set}
 use Rattle.lists.specs.Trace.{trace}
 use Rattle.rows.specs.declared.Graph.the-variants.{Source}
-use Rattle.rows.specs.Row.{rowAt}
+use Rattle.rows.specs.Row.{MAX, rowAt}
 use Rattle.rows.specs.Node.{nodeOf}
 use Rattle.lowering.specs.declared.Walk.{Walk}
 use Rattle.lowering.specs.declared.Walk.the-variants.{RanOut, Met, Lost}
-use Rattle.lowering.specs.Images.{MAX, mapAt}
+use Rattle.lowering.specs.Images.{mapAt}
 use Rattle.lowering.specs.Matching.{selectWalk, Kind, var, const, core, select, call, unknown, kindOf, endClasses, kindClasses, nodeClasses, rowClasses}
 use Rattle.lowering.specs.Lowering.{Lowering, Binding, bindingOf}
 use Rattle.lowering.specs.Check.{classesOfTables, classes}

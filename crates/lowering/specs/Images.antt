@@ -8,13 +8,9 @@ use Rattle.lists.specs.Tests.{all, agree}
 use Rattle.rows.specs.declared.Graph.the-variants.{Target}
 use Rattle.rows.specs.declared.Node.{Node}
 use Rattle.rows.specs.declared.Node.the-variants.{Var, Const, Un, Bin, Extract, Extend, Ite, Select, Call, Unknown}
-use Rattle.rows.specs.Row.{rowAt}
+use Rattle.rows.specs.Row.{MAX, rowAt}
 use Rattle.rows.specs.Tags.{tVar, tConst, tExtract, tIte, tSelect, tCall}
 use Rattle.rows.specs.Node.{rowEq}
-
--- "MAX is 2^64-1"
-abbrev pub MAX : ℕ
-MAX = 18446744073709551615
 
 -- "the target row that the word names is its image"; past the map no row has one
 abbrev pub mapAt : List ℕ → ℕ → ℕ

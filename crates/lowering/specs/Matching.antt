@@ -13,13 +13,13 @@ use Rattle.lists.specs.Trace.{trace}
 use Rattle.rows.specs.declared.Graph.the-variants.{Source, Target}
 use Rattle.rows.specs.declared.Node.{Node}
 use Rattle.rows.specs.declared.Node.the-variants.{Var, Const, Un, Bin, Extract, Extend, Ite, Select, Call, Unknown}
-use Rattle.rows.specs.Row.{rowCount, rowAt}
+use Rattle.rows.specs.Row.{MAX, rowCount, rowAt}
 use Rattle.rows.specs.Tags.{tIte, tEq, either}
 use Rattle.rows.specs.Node.{nodeOf}
 use Rattle.lowering.specs.declared.Walk.{Walk}
 use Rattle.lowering.specs.declared.Walk.the-variants.{RanOut, Met, Lost}
 use Rattle.lowering.specs.Lowering.{SourceGraph, Binding}
-use Rattle.lowering.specs.Images.{MAX, mapAt, mapNode, rowIs, tagAt, fieldAt, bothConst, sameConst}
+use Rattle.lowering.specs.Images.{mapAt, mapNode, rowIs, tagAt, fieldAt, bothConst, sameConst}
 
 -- target row r is Eq(a, b)
 unfoldable pub isEq : List ℕ → ℕ → ℕ → ℕ → Bool

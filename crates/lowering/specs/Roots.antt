@@ -7,9 +7,9 @@ use lib.ListN.{length, getD}
 use Rattle.lists.specs.First.{first}
 use Rattle.lists.specs.Tests.{all}
 use Rattle.rows.specs.declared.Graph.the-variants.{Target}
-use Rattle.rows.specs.Row.{rowCount, rowAt}
+use Rattle.rows.specs.Row.{MAX, rowCount, rowAt}
 use Rattle.rows.specs.Tags.{tNot, tBoolAnd, tBoolOr}
-use Rattle.lowering.specs.Images.{MAX, mapAt, tagAt, fieldAt, unequalConst}
+use Rattle.lowering.specs.Images.{mapAt, tagAt, fieldAt, unequalConst}
 use Rattle.lowering.specs.Tables.{readCount, readVar, readArray, readIndex, callCount, callVar, argCount, callArg, sameFunction}
 use Rattle.lowering.specs.Matching.{isEq}
 

@@ -16,8 +16,8 @@ ghost use Rattle.rows.specs.Tags.{either};
 ghost use Rattle.rows.specs.Node.{nodeOf};
 ghost use Rattle.matching.specs.Ready.{Formed};
 use answers::Answer;
-use images::MAX;
 use rows::Graph;
+use rows::MAX;
 use rows::tag;
 
 // The classes of a read or call variable that nothing has reached.

@@ -7,6 +7,10 @@ use lib.ListN.{length, getD}
 use Rattle.rows.specs.declared.Graph.{Graph}
 use Rattle.rows.specs.declared.Graph.the-variants.{Source, Target}
 
+-- "MAX is 2^64-1"
+abbrev pub MAX : ℕ
+MAX = 18446744073709551615
+
 -- "place 1 source, 2 target", "detail 1 or 2 for the graph"
 abbrev pub graphNumber : Graph → ℕ
 graphNumber Source = 1

@@ -7,6 +7,9 @@ ghost use Rattle.rows.specs.Node.{nodeFrom, nodeOf, rowEq};
 
 pub mod tag;
 
+// The largest word: no row has this number, so a row that is mapped here has no image; no width passes it.
+pub const MAX: u64 = 0xffff_ffff_ffff_ffff;
+
 // Which graph a list of words holds.
 pub enum Graph {
     Source,

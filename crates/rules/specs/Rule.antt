@@ -9,12 +9,13 @@ use lib.ListN.{length, getD}
 use Rattle.lists.specs.First.{none}
 use Rattle.rows.specs.declared.Node.{Node}
 use Rattle.rows.specs.declared.Node.the-variants.{Var, Const, Un, Bin, Extract, Extend, Ite, Select, Call, Unknown}
+use Rattle.rows.specs.Row.{MAX}
 use Rattle.rows.specs.Tags.{tConcat, tNot, isBool, isCompare}
 use Rattle.rows.specs.Node.{operands}
 
--- "MAX is 2^64-1": no width passes it, and a sum of widths that would is refused
+-- no width passes it, and a sum of widths that would is refused
 abbrev pub ceiling : ℕ
-ceiling = 18446744073709551615
+ceiling = MAX
 
 abbrev pub capped : ℕ → ℕ
 capped w = cond (leb w ceiling) w 0

@@ -7,7 +7,7 @@ ghost use Rattle.rules.specs.Rule.{capped, unWidth, binWidth, extractWid
 use rows::tag;
 
 // No width passes it.
-const CEILING: u64 = 0xffff_ffff_ffff_ffff;
+const CEILING: u64 = rows::MAX;
 
 // The widths of a Select's index and of an array's cell.
 pub const INDEX_WIDTH: u64 = 32;

@@ -6,7 +6,7 @@ use lib.Pow.{pow-pos}
 use Rattle.rules.specs.Rule.{cellWidth}
 use Rattle.value.specs.Graph.{Assigns}
 use Rattle.meaning.specs.Meaning.{Interpretation, OfKind}
-use Rattle.lowering.specs.Images.{MAX}
+use Rattle.rows.specs.Row.{MAX}
 use Rattle.lowering.specs.Lowering.{Lowering, targetRows}
 use Rattle.soundness.specs.Sound.{ImagesAgree, SourceTrue, TargetTrue}
 use Rattle.soundness.specs.Transfer.{assignment, interpretation}

@@ -18,11 +18,10 @@ use Rattle.lists.proofs.Tests.{all-true, agree-at}
 use Rattle.rows.specs.declared.Graph.the-variants.{Target}
 use Rattle.rows.specs.declared.Node.{Node}
 use Rattle.rows.specs.declared.Node.the-variants.{Var, Call}
-use Rattle.rows.specs.Row.{rowAt}
+use Rattle.rows.specs.Row.{MAX, rowAt}
 use Rattle.rows.specs.Tags.{either}
 use Rattle.lowering.specs.declared.Walk.{Walk}
 use Rattle.lowering.specs.declared.Walk.the-variants.{RanOut, Met, Lost}
-use Rattle.lowering.specs.Images.{MAX}
 use Rattle.lowering.specs.Matching.{Noted, noted, mappedArg, endGood, callMatches, varMatches, matched, nodeAnswer, rowAnswer, endClasses, nodeClasses, rowClasses}
 use Rattle.lowering.specs.Matching.{Kind, var, const, core, select, call, unknown, kindOf, kindAnswer, kindClasses}
 use Rattle.lowering.specs.Lowering.{Lowering, bindingOf, targetRows}

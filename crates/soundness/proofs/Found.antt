@@ -13,7 +13,7 @@ use Rattle.lists.proofs.Choice.{no-way}
 use Rattle.rows.specs.declared.Graph.the-variants.{Source, Target}
 use Rattle.rows.specs.declared.Node.{Node}
 use Rattle.rows.specs.declared.Node.the-variants.{Var, Const, Un, Bin, Extract, Extend, Ite, Select, Call, Unknown}
-use Rattle.rows.specs.Row.{rowAt}
+use Rattle.rows.specs.Row.{MAX, rowAt}
 use Rattle.rows.specs.Tags.{tVar}
 use Rattle.rows.specs.Node.{operands}
 use Rattle.rows.proofs.Tags.{un-tags, extend-tags}
@@ -21,7 +21,7 @@ use Rattle.rows.proofs.View.{TagGood, node-good}
 use Rattle.value.specs.Operate.{tagOf, parameters}
 use Rattle.lowering.specs.declared.Walk.{Walk}
 use Rattle.lowering.specs.declared.Walk.the-variants.{RanOut, Met, Lost}
-use Rattle.lowering.specs.Images.{MAX, mapNode}
+use Rattle.lowering.specs.Images.{mapNode}
 use Rattle.lowering.specs.Matching.{endGood, nodeMatches}
 use Rattle.lowering.specs.Lowering.{Lowering, sourceRows, targetRows}
 use Rattle.lowering.specs.Check.{offsets}

@@ -15,7 +15,7 @@ use Rattle.rows.specs.Tags.{either}
 use Rattle.wf.specs.Promise.{RowFormed}
 use Rattle.lowering.specs.declared.Walk.{Walk}
 use Rattle.lowering.specs.declared.Walk.the-variants.{RanOut, Met, Lost}
-use Rattle.lowering.specs.Images.{MAX}
+use Rattle.rows.specs.Row.{MAX}
 use Rattle.lowering.specs.Tables.{readCount, readVar, readIndex, callCount, callVar, argCount, callArg}
 use Rattle.lowering.specs.Matching.{rowClasses}
 use Rattle.lowering.specs.Lowering.{Lowering, sourceRows, targetRows}

@@ -17,7 +17,7 @@ use Rattle.lists.proofs.Tests.{all-true}
 use Rattle.rows.specs.declared.Graph.the-variants.{Source}
 use Rattle.rows.specs.declared.Node.{Node}
 use Rattle.rows.specs.declared.Node.the-variants.{Var, Const, Un, Bin, Extract, Extend, Ite, Select, Call, Unknown}
-use Rattle.rows.specs.Row.{rowAt}
+use Rattle.rows.specs.Row.{MAX, rowAt}
 use Rattle.rows.specs.Tags.{tVar, tEq}
 use Rattle.rows.specs.Node.{operands}
 use Rattle.rules.specs.Rule.{indexWidth, cellWidth}
@@ -25,7 +25,7 @@ use Rattle.wf.specs.Promise.{Below, RowFormed}
 use Rattle.value.specs.Operate.{tagOf}
 use Rattle.lowering.specs.declared.Walk.{Walk}
 use Rattle.lowering.specs.declared.Walk.the-variants.{Met, Lost}
-use Rattle.lowering.specs.Images.{MAX, fieldAt, bothConst, sameConst}
+use Rattle.lowering.specs.Images.{fieldAt, bothConst, sameConst}
 use Rattle.lowering.specs.Tables.{readIndex, argCount, callArg}
 use Rattle.lowering.specs.Matching.{isLevel, walk}
 use Rattle.lowering.specs.Lowering.{Lowering, sourceRows, targetRows}

@@ -15,8 +15,8 @@ use Rattle.lists.specs.Tests.{all}
 use Rattle.lists.proofs.Choice.{no-way, lt-or-ge}
 use Rattle.lists.proofs.Tests.{all-true}
 use Rattle.rows.specs.declared.Graph.the-variants.{Target}
-use Rattle.rows.specs.Row.{rowAt}
-use Rattle.lowering.specs.Images.{MAX, unequalConst}
+use Rattle.rows.specs.Row.{MAX, rowAt}
+use Rattle.lowering.specs.Images.{unequalConst}
 use Rattle.lowering.specs.Tables.{readCount, readArray, readIndex, callCount, sameFunction}
 use Rattle.lowering.specs.Matching.{rowAnswer}
 use Rattle.lowering.specs.Roots.{Pair, pair, pairs, leads, readsNeed, rootAt, readRoot, callRoot}

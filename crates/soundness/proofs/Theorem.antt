@@ -7,7 +7,7 @@ use mathlib.Core.List.{List}
 use lib.ListN.{length}
 use Rattle.value.specs.Graph.{Assigns}
 use Rattle.meaning.specs.Meaning.{Interpretation, OfKind}
-use Rattle.lowering.specs.Images.{MAX}
+use Rattle.rows.specs.Row.{MAX}
 use Rattle.lowering.specs.Lowering.{Lowering}
 use Rattle.soundness.specs.Sound.{Accepts, Sound, ImagesAgree, SourceTrue, TargetTrue, SourceIsSatisfiable, TargetIsSatisfiable}
 use Rattle.soundness.specs.Transfer.{assignment, interpretation}

@@ -8,7 +8,8 @@ use Rattle.answers.specs.Answer.{isAccepted}
 use Rattle.value.specs.Val.{Val}
 use Rattle.value.specs.Graph.{value, Assigns}
 use Rattle.meaning.specs.Meaning.{Interpretation, OfKind, RootsTrue, SourceSatisfiable, TargetSatisfiable, sourceValue}
-use Rattle.lowering.specs.Images.{MAX, mapAt}
+use Rattle.rows.specs.Row.{MAX}
+use Rattle.lowering.specs.Images.{mapAt}
 use Rattle.lowering.specs.Lowering.{Lowering, sourceRows, targetRows}
 use Rattle.lowering.specs.Check.{check}
 

@@ -4,7 +4,7 @@ use mathlib.Core.Path.{ap}
 use native.Mathlib.Omega.{arith}
 use lib.ListN.{length}
 use Rattle.answers.specs.Result.{toldOf}
-use Rattle.lowering.specs.Images.{MAX}
+use Rattle.rows.specs.Row.{MAX}
 use Rattle.gilfrunt.proofs.Sound.{book-sound}
 use borrow.Author.Needs.{needs}
 use Rattle.gilfrunt.proofs.gilfrunt_judge.Statement.{statement}

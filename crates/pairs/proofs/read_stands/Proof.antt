@@ -3,8 +3,7 @@ use mathlib.Core.Path.{_∙_, sym}
 use native.Mathlib.Omega.{arith}
 use Prim.Native.Nat.{_≤_}
 use Rattle.rows.specs.declared.Graph.the-variants.{Target}
-use Rattle.rows.specs.Row.{rowCount}
-use Rattle.lowering.specs.Images.{MAX}
+use Rattle.rows.specs.Row.{MAX, rowCount}
 use borrow.Author.Tests.{lt-ltb, le-ltb}
 use Rattle.lists.specs.Tests.{all}
 use Rattle.lowering.specs.Roots.{allEqual}
