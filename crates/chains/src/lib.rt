@@ -4,7 +4,6 @@ ghost use mathlib.Core.Bool.{cond};
 ghost use Prim.Native.Nat.{_+_, _<_};
 ghost use lib.ListN.{length, getD};
 ghost use Rattle.images.specs.Bits.{BitsWithin, ConstsWithin};
-ghost use Rattle.lowering.specs.declared.Walk.{Walk};
 ghost use Rattle.lowering.specs.Lowering.{sourceGraph};
 ghost use Rattle.lowering.specs.Matching.{walk, noted, endGood, endClasses};
 ghost use Rattle.rows.specs.declared.Graph.{Graph};

@@ -9,7 +9,6 @@ use Rattle.answers.specs.declared.Answer.the-variants.{VarClass, ConstMismatch,
 use Rattle.answers.specs.Answer.{isAccepted}
 use Rattle.rows.specs.declared.Graph.the-variants.{Source, Target}
 use Rattle.rows.specs.declared.Node.{Node}
-use Rattle.rows.specs.declared.Node.the-variants.{Var, Const, Un, Bin, Extract, Extend, Ite, Select, Call, Unknown}
 use Rattle.rows.specs.Row.{rowAt}
 use Rattle.rows.specs.Tags.{tVar, tConst, tSelect, tCall}
 use Rattle.rows.specs.Node.{nodeOf}

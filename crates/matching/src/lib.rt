@@ -3,7 +3,6 @@ ghost use mathlib.Core.Path.{_≡_};
 ghost use mathlib.Core.Bool.{cond};
 ghost use Prim.Native.Nat.{_<_};
 ghost use lib.ListN.{length, set};
-ghost use Rattle.answers.specs.declared.Answer.{Answer};
 ghost use Rattle.answers.specs.Answer.{isAccepted};
 ghost use Rattle.images.specs.Bits.{BitsWithin, ConstsWithin};
 ghost use Rattle.lowering.specs.Lowering.{sourceGraph, targetGraph, binding};
