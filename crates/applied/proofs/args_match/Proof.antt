@@ -1,24 +1,22 @@
 -- Invariant: the arguments before l agree. Assumes nothing.
-use Prim.Native.Nat.{ℕ, _≤_, _<_, _+_, _-_}
-use mathlib.Core.Path.{_≡_, _∙_, sym}
-use native.Mathlib.Nat.{not-suc-le-zero}
+use Prim.Native.Nat.{_+_, _-_}
+use mathlib.Core.Path.{_∙_, sym}
 use native.Mathlib.Omega.{arith}
-use borrow.Author.Count.{below-more}
 use lib.ListN.{getD}
-use Rattle.lists.proofs.Tests.{agree-yes, agree-no}
-use Rattle.lowering.specs.Images.{mapAt}
+use Rattle.lowering.specs.Matching.{mappedArg}
+use Rattle.images.proofs.Agree.{Agreed, agreed-none, agreed-more, agreed-no, agreed-all}
 use borrow.Author.Needs.{needs}
 use Rattle.applied.proofs.args_match.Statement.{statement}
 use Rattle.applied.proofs.args_match.Tie as tie
 
 abbrev Inv-loop : tie.InvT-loop
-Inv-loop eside map cargs s cs k l₀ l = (l ≤ k) × ((j : ℕ) → j < l → mapAt map (getD eside (s + j) 0) ≡ getD cargs (cs + j) 0)
+Inv-loop eside map cargs s cs k l₀ l = Agreed (mappedArg map eside s) (λ j. getD cargs (cs + j) 0) k l
 
 abbrev μ-loop : tie.MeasureT-loop
 μ-loop eside map cargs s cs k l₀ l = k - l
 
 loop-holds : tie.Need-loop-holds Inv-loop μ-loop
-loop-holds c = (search needs, λ j h. absurd (not-suc-le-zero h))
+loop-holds c = agreed-none _ _ _
 
 add-map-at : tie.Need-add-map-at Inv-loop μ-loop
 add-map-at c = let h = c .before .before .before .before .before .pre .0 _ (c .loop-test .taken) in omega (arith, h)
@@ -42,7 +40,7 @@ shared-slice-read-if1 : tie.Need-shared-slice-read-if1 Inv-loop μ-loop
 shared-slice-read-if1 c = omega arith
 
 returns : tie.Need-returns Inv-loop μ-loop
-returns c = sym (agree-no _ _ _ _ (c .before .before .before .before .loop-test .taken) (λ z. c .if1 .taken (c .before .before .map-at .ensures ∙ z)) (c .before .before .before .before .before .loop .inv .1))
+returns c = agreed-no _ _ _ _ (c .before .before .before .before .before .loop .inv) (c .before .before .before .before .loop-test .taken) (λ z. c .if1 .taken (c .before .before .map-at .ensures ∙ z))
 
 add-l : tie.Need-add-l Inv-loop μ-loop
 add-l c = omega arith
@@ -51,10 +49,10 @@ loop-less : tie.Need-loop-less Inv-loop μ-loop
 loop-less c = omega arith
 
 loop-again : tie.Need-loop-again Inv-loop μ-loop
-loop-again c = (omega arith, below-more _ _ (c .before .before .before .before .before .loop .inv .1) (sym (c .before .before .map-at .ensures) ∙ c .if1 .left))
+loop-again c = agreed-more _ _ _ _ (c .before .before .before .before .before .loop .inv) (c .before .before .before .before .loop-test .taken) (sym (c .before .before .map-at .ensures) ∙ c .if1 .left)
 
 returns-2 : tie.Need-returns-2 Inv-loop μ-loop
-returns-2 c = sym (agree-yes _ _ _ (λ j h. c .before .loop .inv .1 j (omega arith)))
+returns-2 c = agreed-all _ _ _ _ (c .before .loop .inv) (c .loop-test .left)
 
 pub args-match-spec : {M : Type 1} → statement M
 args-match-spec =
