@@ -1,6 +1,6 @@
 -- Laws of the walk along the roots of some pairs. Assumes nothing.
 use Prim.Native.Nat.{ℕ, suc, _+_, _-_, _<_, _≤_}
-use mathlib.Core.Path.{_≡_, refl, _∙_}
+use mathlib.Core.Path.{_≡_, refl, sym, _∙_}
 use mathlib.Core.Bool.{Bool, true, false, cond}
 use mathlib.Core.List.{List, [], _∷_, _++_}
 use native.Mathlib.Nat.{add-zero, add-suc, suc-add}
@@ -50,42 +50,48 @@ module _ (troots : List ℕ) (test : ℕ → Pair → Bool) where
   unfolding rootAt
   root-inside q p e = ltb-true _ _ (all-true (ltb q (length troots) ∷ test (getD troots q 0) p ∷ []) e .0)
 
-  -- the pairs of entry k with l, .., n - 1, from l on
-  module _ (needs : ℕ → ℕ → Bool) (n k idx : ℕ) where
-    pub row-end : (l : ℕ) → n ≤ l → walked troots test idx (pairsWith needs k l (n - l)) ≡ cong true idx
-    unfolding pairsWith
-    row-end l h = let z : n - l ≡ 0 = omega arith in rw z (walk-end idx)
+-- what a loop over the pairs of entry k keeps: those with entries from l on give what all give
+pub record RowKept (troots : List ℕ) (test : ℕ → Pair → Bool) (needs : ℕ → ℕ → Bool) (n k from idx l : ℕ) : Type 0 where
+  pub kept : walked troots test from (pairsWith needs k (k + 1) (n - (k + 1))) ≡ walked troots test idx (pairsWith needs k l (n - l))
 
-    pub row-skip : (l : ℕ) → l < n → needs k l ≡ false
-        → walked troots test idx (pairsWith needs k l (n - l)) ≡ walked troots test idx (pairsWith needs k (l + 1) (n - (l + 1)))
-    unfolding pairsWith
-    row-skip l h e = let z : n - l ≡ suc (n - (l + 1)) = omega arith in rw (z, e, add-one l)
+module _ {troots : List ℕ} {test : ℕ → Pair → Bool} {needs : ℕ → ℕ → Bool} {n k from idx l : ℕ} (a : RowKept troots test needs n k from idx l) where
+  pub row-end : n ≤ l → cong true idx ≡ walked troots test from (pairsWith needs k (k + 1) (n - (k + 1)))
+  unfolding pairsWith
+  row-end h = let z : n - l ≡ 0 = omega arith in sym (a .kept ∙ rw z (walk-end troots test idx))
 
-    pub row-on : (l : ℕ) → l < n → needs k l ≡ true → rootAt troots test idx (pair k l) ≡ true
-        → walked troots test idx (pairsWith needs k l (n - l)) ≡ walked troots test (idx + 1) (pairsWith needs k (l + 1) (n - (l + 1)))
+  module _ (h : l < n) where
+    pub row-skip : needs k l ≡ false → RowKept troots test needs n k from idx (l + 1)
     unfolding pairsWith
-    row-on l h e r = let z : n - l ≡ suc (n - (l + 1)) = omega arith in rw (z, e, add-one l) (walk-on idx _ _ r)
+    row-skip e = let z : n - l ≡ suc (n - (l + 1)) = omega arith in record { kept = a .kept ∙ rw (z, e, add-one l) }
 
-    pub row-stop : (l : ℕ) → l < n → needs k l ≡ true → rootAt troots test idx (pair k l) ≡ false
-        → walked troots test idx (pairsWith needs k l (n - l)) ≡ cong false idx
-    unfolding pairsWith
-    row-stop l h e r = let z : n - l ≡ suc (n - (l + 1)) = omega arith in rw (z, e) (walk-stop idx _ _ r)
+    module _ (e : needs k l ≡ true) where
+      pub row-on : rootAt troots test idx (pair k l) ≡ true → RowKept troots test needs n k from (idx + 1) (l + 1)
+      unfolding pairsWith
+      row-on r = let z : n - l ≡ suc (n - (l + 1)) = omega arith in record { kept = a .kept ∙ rw (z, e, add-one l) (walk-on troots test idx _ _ r) }
 
-    -- all pairs from entry k on: those of k, then the others
-    pub table-end : n ≤ k → walked troots test idx (pairs needs k (n - k)) ≡ cong true idx
+      pub row-stop : rootAt troots test idx (pair k l) ≡ false → cong false idx ≡ walked troots test from (pairsWith needs k (k + 1) (n - (k + 1)))
+      unfolding pairsWith
+      row-stop r = let z : n - l ≡ suc (n - (l + 1)) = omega arith in sym (a .kept ∙ rw (z, e) (walk-stop troots test idx _ _ r))
+
+-- what a loop over all pairs keeps: those of entries from k on give what all give
+pub record TableKept (troots : List ℕ) (test : ℕ → Pair → Bool) (needs : ℕ → ℕ → Bool) (n from idx k : ℕ) : Type 0 where
+  pub kept : walked troots test from (pairs needs 0 n) ≡ walked troots test idx (pairs needs k (n - k))
+
+module _ {troots : List ℕ} {test : ℕ → Pair → Bool} {needs : ℕ → ℕ → Bool} {n from idx k : ℕ} (a : TableKept troots test needs n from idx k) where
+  pub table-end : n ≤ k → cong true idx ≡ walked troots test from (pairs needs 0 n)
+  unfolding pairs
+  table-end h = let z : n - k ≡ 0 = omega arith in sym (a .kept ∙ rw z (walk-end troots test idx))
+
+  -- the pairs of k, then the others
+  module _ (h : k < n) (c : Cong) (row : c ≡ walked troots test idx (pairsWith needs k (k + 1) (n - (k + 1)))) where
+    table-both : walked troots test from (pairs needs 0 n) ≡ cond (c .ok) (walked troots test (c .next) (pairs needs (k + 1) (n - (k + 1)))) c
     unfolding pairs
-    table-end h = let z : n - k ≡ 0 = omega arith in rw z (walk-end idx)
+    table-both =
+        let z : n - k ≡ suc (n - (k + 1)) = omega arith in
+        a .kept ∙ rw (z, row, add-one k) (walk-both troots test (pairsWith needs k (suc k) (n - suc k)) _ idx)
 
-    module _ (h : k < n) (c : Cong) (row : c ≡ walked troots test idx (pairsWith needs k (k + 1) (n - (k + 1)))) where
-      table-both : walked troots test idx (pairs needs k (n - k)) ≡ cond (c .ok) (walked troots test (c .next) (pairs needs (k + 1) (n - (k + 1)))) c
-      unfolding pairs
-      table-both =
-          let z : n - k ≡ suc (n - (k + 1)) = omega arith in
-          rw (z, row, add-one k) (walk-both (pairsWith needs k (suc k) (n - suc k)) _ idx)
+    pub table-on : c .ok ≡ true → TableKept troots test needs n from (c .next) (k + 1)
+    table-on e = record { kept = table-both ∙ rw e }
 
-      pub table-on : c .ok ≡ true
-          → walked troots test idx (pairs needs k (n - k)) ≡ walked troots test (c .next) (pairs needs (k + 1) (n - (k + 1)))
-      table-on e = table-both ∙ rw e
-
-      pub table-stop : c .ok ≡ false → walked troots test idx (pairs needs k (n - k)) ≡ c
-      table-stop e = table-both ∙ rw e
+    pub table-stop : c .ok ≡ false → c ≡ walked troots test from (pairs needs 0 n)
+    table-stop e = sym (table-both ∙ rw e)

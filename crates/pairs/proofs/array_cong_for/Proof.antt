@@ -9,16 +9,14 @@ use lib.ListN.{length}
 use Rattle.rows.specs.declared.Graph.the-variants.{Target}
 use Rattle.rows.specs.Row.{rowCount}
 use Rattle.lowering.specs.Tables.{readCount, readIndex}
-use Rattle.lowering.specs.Roots.{pair, pairsWith, readsNeed, readRoot, rootAt}
-use Rattle.pairs.specs.Walk.{walked}
-use Rattle.pairs.proofs.Walk.{row-end, row-skip, row-on, row-stop, root-inside}
+use Rattle.lowering.specs.Roots.{pair, readsNeed, readRoot, rootAt}
+use Rattle.pairs.proofs.Walk.{RowKept, row-end, row-skip, row-on, row-stop, root-inside}
 use Rattle.pairs.proofs.array_cong_for.Statement.{statement}
 use Rattle.pairs.proofs.array_cong_for.Tie as tie
 
 abbrev Inv-loop : tie.InvT-loop
 Inv-loop reads target tbits troots k idx0 n at vp aid xp rp idx₀ l₀ idx l =
-    (l ≤ n) × (walked troots (readRoot reads target) idx0 (pairsWith (readsNeed reads target tbits) k (k + 1) (readCount reads - (k + 1)))
-    ≡ walked troots (readRoot reads target) idx (pairsWith (readsNeed reads target tbits) k l (readCount reads - l)))
+    (l ≤ n) × RowKept troots (readRoot reads target) (readsNeed reads target tbits) (readCount reads) k idx0 idx l
 
 abbrev μ-loop : tie.MeasureT-loop
 μ-loop reads target tbits troots k idx0 n at vp aid xp rp idx₀ l₀ idx l = n - l
@@ -71,7 +69,7 @@ add-l : tie.Need-add-l Inv-loop μ-loop
 add-l c = omega (arith, whole (c .before .before .before .before .before .before .before .before .before))
 
 loop-holds : tie.Need-loop-holds Inv-loop μ-loop
-loop-holds c = (omega (arith, c .before .before .before .before .read-count .ensures), refl)
+loop-holds c = (omega (arith, c .before .before .before .before .read-count .ensures), record { kept = refl })
 
 -- entry l is whole and its index is a row
 entry : (c : tie.In-loop Inv-loop μ-loop)
@@ -125,12 +123,7 @@ returns : tie.Need-returns Inv-loop μ-loop
 returns c =
     let in-loop = c .before .before .before .before .before .before in
     let at-loop = in-loop .before in
-    let s = start at-loop .args in
-    let l = at-loop .loop in
-    sym
-    (l .inv .1
-    ∙ row-stop (s .troots .now) (readRoot (s .reads .now) (s .target .now)) (readsNeed (s .reads .now) (s .target .now) (s .tbits .now)) (readCount (s .reads .now)) (s .k) (l .idx) (l .l)
-    (rw (counted at-loop .read-count .ensures) at (in-loop .loop-test .taken)) (sym (needs-is (c .before .before .before .before .before)) ∙ c .before .before .before .before .if1 .taken) (sym (stands-is (c .before)) ∙ not-true _ (c .if2 .taken)))
+    row-stop (at-loop .loop .inv .1) (rw (counted at-loop .read-count .ensures) at (in-loop .loop-test .taken)) (sym (needs-is (c .before .before .before .before .before)) ∙ c .before .before .before .before .if1 .taken) (sym (stands-is (c .before)) ∙ not-true _ (c .if2 .taken))
 
 add-idx : tie.Need-add-idx Inv-loop μ-loop
 add-idx c = omega (arith, root-inside _ _ _ _ (sym (stands-is (c .before)) ∙ not-false _ (c .if2 .left)))
@@ -145,21 +138,17 @@ loop-again : tie.Need-loop-again Inv-loop μ-loop
 unfolding rootAt
 loop-again c =
     let at-loop = c .before .before .before in
-    let s = start at-loop .args in
     let l = at-loop .loop in
     let h = rw (counted at-loop .read-count .ensures) at (c .before .before .loop-test .taken) in (
       omega arith,
-      l .inv .1 ∙ ⊎-elim
-          (λ w. rw (w .5) (row-on (s .troots .now) (readRoot (s .reads .now) (s .target .now)) (readsNeed (s .reads .now) (s .target .now) (s .tbits .now)) (readCount (s .reads .now)) (s .k) (l .idx) (l .l) h (sym (needs-is (c .before)) ∙ w .0 .taken) (sym (w .3 .ensures) ∙ not-false _ (w .4 .left))))
-          (λ w. rw (w .1) (row-skip (s .troots .now) (readRoot (s .reads .now) (s .target .now)) (readsNeed (s .reads .now) (s .target .now) (s .tbits .now)) (readCount (s .reads .now)) (s .k) (l .idx) (l .l) h (sym (needs-is (c .before)) ∙ w .0 .left)))
+      ⊎-elim
+          (λ w. rw (w .5) (row-on (l .inv .1) h (sym (needs-is (c .before)) ∙ w .0 .taken) (sym (w .3 .ensures) ∙ not-false _ (w .4 .left))))
+          (λ w. rw (w .1) (row-skip (l .inv .1) h (sym (needs-is (c .before)) ∙ w .0 .left)))
           (c .if1 .came),
     )
 
 returns-2 : tie.Need-returns-2 Inv-loop μ-loop
-returns-2 c =
-    let s = start (c .before) .args in
-    let l = c .before .loop in
-    sym (l .inv .1 ∙ row-end (s .troots .now) (readRoot (s .reads .now) (s .target .now)) (readsNeed (s .reads .now) (s .target .now) (s .tbits .now)) (readCount (s .reads .now)) (s .k) (l .idx) (l .l) (rw (counted (c .before) .read-count .ensures) at (c .loop-test .left)))
+returns-2 c = row-end (c .before .loop .inv .1) (rw (counted (c .before) .read-count .ensures) at (c .loop-test .left))
 
 pub array-cong-for-spec : {M : Type 1} → statement M
 array-cong-for-spec =
