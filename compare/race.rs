@@ -2,7 +2,11 @@
 
 use std::time::Instant;
 
-const ROUNDS: usize = 25;
+/// How often each side runs, after a first run that is not timed; GILFRUNT_ROUNDS, if set.
+fn rounds() -> usize {
+    let given = std::env::var("GILFRUNT_ROUNDS").ok();
+    given.and_then(|word| word.parse().ok()).map_or(25, |rounds: usize| rounds.max(1))
+}
 
 /// What a time is given for.
 #[derive(Clone, Copy)]
@@ -36,7 +40,7 @@ pub fn race(
     };
     let mut good = ours() && rust();
     let (mut mine, mut theirs) = (Vec::new(), Vec::new());
-    for _ in 0..ROUNDS {
+    for _ in 0..rounds() {
         mine.push(timed(unit, ours, &mut good));
         theirs.push(timed(unit, rust, &mut good));
     }

@@ -7,6 +7,8 @@ import os
 import re
 import unittest
 
+import believe
+
 TOP = os.path.dirname(os.path.dirname(os.path.abspath(__file__)))
 CRATES = os.path.join(TOP, "crates")
 KIT = {"std"}  # named by some crates, and given to each by the kit
@@ -84,6 +86,20 @@ class Edits(unittest.TestCase):
     def test_each_says_what_is_wrong(self):
         for edit in sorted(glob.glob(os.path.join(CRATES, "*", "must-fail", "*.edit"))):
             self.assertRegex(read(edit).split("\n")[0], r"^(?!file:|old:|new:)\S.*\.$", short(edit))
+
+
+class Definitions(unittest.TestCase):
+    # what the operations and programs answer, what is promised of it, and what the theorems' page names
+    STATEMENTS = ("check", "judge", "verdict", "sourceWidths", "targetWidths", "rootsAnswer", "values", "sectionAnswer",
+                  "section", "lineOf", "Sound", "WellFormed", "assignment", "interpretation", "Agrees", "wordsIn",
+                  "endBare", "callBare")
+
+    def test_the_rest_is_inner(self):
+        """A file of specs/ has what a statement stands on, or says that it is inner, and not both."""
+        named = {path for path, _, _ in believe.table(self.STATEMENTS)}
+        for path in files("specs"):
+            if os.path.basename(path) != "Lib.antt":
+                self.assertNotEqual(short(path) in named, "-- Inner: " in read(path), short(path))
 
 
 class Text(unittest.TestCase):

@@ -1,4 +1,5 @@
--- Words of width w as signed numbers, in two's complement, and back. Assumes nothing.
+-- Words of width w as signed numbers, in two's complement, and back.
+-- Inner: contracts within the code cite it; no answer's definition does. Assumes nothing.
 use Prim.Native.Nat.{ℕ, _-_, _%_, _^_}
 use mathlib.Core.Bool.{Bool, false, cond}
 use lib.Dec.{eqb, ltb}

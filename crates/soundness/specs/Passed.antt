@@ -1,4 +1,5 @@
--- What Check has passed, test by test: when it comes to a row, and when it accepts. Demand 3 rests on this alone. Assumes nothing.
+-- What Check has passed, test by test: when it comes to a row, and when it accepts. Demand 3 rests on this alone.
+-- Inner: the theorem's proof cites it; no answer's definition and no statement does. Assumes nothing.
 use Prim.Native.Nat.{ℕ, _+_, _<_, _≤_}
 use mathlib.Core.Path.{_≡_}
 use mathlib.Core.Bool.{true, false}
