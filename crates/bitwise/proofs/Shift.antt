@@ -1,14 +1,12 @@
 -- The shifts in closed form, for every width and amount: SMT-LIB's formulas. Assumes nothing.
 use Prim.Native.Nat.{ℕ, _≤_, _<_, _-_, _*_, _/_, _^_}
-use mathlib.Core.Path.{_≡_, refl, sym, ap, ap₂, _∙_}
+use mathlib.Core.Path.{_≡_, refl, sym, ap, _∙_}
 use mathlib.Core.Bool.{Bool, true, false, cond}
-use native.Mathlib.Omega.{arith}
 use native.Mathlib.Nat.{mul-mod-left, mul-assoc, div-eq-of-lt, lt-of-lt-of-le, sub-add-cancel}
 use lib.Dec.{ltb}
-use lib.Pow.{pow-add, pow-mono, shr-le, ones-sub-lt}
+use lib.Pow.{pow-add, pow-mono}
 use borrow.Author.Tests.{ltb-false}
 use Rattle.bv.specs.Bv.{nat2bv, bvnot, bvshl, bvlshr, bvashr, negative}
-use Rattle.bitwise.proofs.Logic.{not-law}
 
 -- a choice whose two cases have one value
 choose : (t : Bool) (x y z : ℕ) → (t ≡ true → x ≡ z) → (t ≡ false → y ≡ z) → cond t x y ≡ z
@@ -27,15 +25,6 @@ shl-law w a b = choose (ltb b w) _ _ _ (λ t. refl) (λ t. shl-out w a b (ltb-fa
 pub lshr-law : (w a b : ℕ) → a < 2 ^ w → bvlshr w a b ≡ a / 2 ^ b
 lshr-law w a b l =
     choose (ltb b w) _ _ _ (λ t. refl) (λ t. sym (div-eq-of-lt (lt-of-lt-of-le l (pow-mono (ltb-false b w t)))))
-
--- of a negative number what is shifted in are ones: the shift of its complement, turned over
-pub ashr-law : (w a b : ℕ) → a < 2 ^ w → bvashr w a b ≡ cond (negative w a) (2 ^ w - 1 - (2 ^ w - 1 - a) / 2 ^ b) (a / 2 ^ b)
-ashr-law w a b l =
-    let n : bvnot w a ≡ 2 ^ w - 1 - a = not-law w a l in
-    let m : 2 ^ w - 1 - a < 2 ^ w = ones-sub-lt w a in
-    let s : bvlshr w (bvnot w a) b ≡ (2 ^ w - 1 - a) / 2 ^ b = ap (λ (x : ℕ). bvlshr w x b) n ∙ lshr-law w (2 ^ w - 1 - a) b m in
-    let f : (2 ^ w - 1 - a) / 2 ^ b < 2 ^ w = omega (arith, shr-le (2 ^ w - 1 - a) b) in
-    ap₂ (cond (negative w a)) (ap (bvnot w) s ∙ not-law w ((2 ^ w - 1 - a) / 2 ^ b) f) (lshr-law w a b l)
 
 -- the two cases of the sign
 pub ashr-negative : (w a b : ℕ) → negative w a ≡ true → bvashr w a b ≡ bvnot w (bvlshr w (bvnot w a) b)

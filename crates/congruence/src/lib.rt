@@ -16,8 +16,8 @@ use rows::tag;
 // Row a says that k arguments from sp on and from sq on are equal: BoolAnd nested to the left, the last equality outermost.
 fn ante_ok(target: &[u64], cargs: &[u64], sp: usize, sq: usize, k: usize, a: u64) -> bool
     requires { ⌜ (0 < k) × (sp + k ≤ length (now cargs)) × (sq + k ≤ length (now cargs)) ⌝ }
-    ensures test { λ r. ⌜ r ≡ allEqual (now (target .entry)) (λ l. getD (now (cargs .entry)) (sp + l) 0) (λ l. getD (now (cargs .entry)) (sq + l) 0)
-        (k - 1) a ⌝ }
+    ensures test { λ r. ⌜ r ≡ allEqual (now (target .entry)) (λ l. getD (now (cargs .entry)) (sp + l) 0)
+        (λ l. getD (now (cargs .entry)) (sq + l) 0) (k - 1) a ⌝ }
 {
     let n = rows::row_count(Graph::Target, target) as u64;
     let mut cur = a;

@@ -107,7 +107,8 @@ pub fn entry_good(
     requires { ⌜ (w ≡ stride which) × (off ≡ k * w) × (off < length (now table)) ⌝ }
     requires { ⌜ ArgsBefore which (now table) (now cargs) k ⌝ }
     requires { ⌜ length (now cls) ≡ rowCount Graph.Target (now target) ⌝ }
-    ensures test { λ b. ⌜ b ≡ good which (now (table .entry)) (now (cargs .entry)) (now (target .entry)) (now (ws .entry)) (now (cls .entry)) k ⌝ }
+    ensures test { λ b. ⌜ b ≡ good which (now (table .entry)) (now (cargs .entry)) (now (target .entry)) (now (ws .entry))
+        (now (cls .entry)) k ⌝ }
 {
     if table.len() - off < w {
         return false;

@@ -29,14 +29,16 @@ fn un_at(ws: &[u64], vs: &[u64], t: u64, i: usize) -> u64
 fn bin_at(ws: &[u64], vs: &[u64], t: u64, i: usize, j: usize) -> u64
     requires { ⌜ (i < length (now ws)) × (i < length (now vs)) × (j < length (now ws)) × (j < length (now vs)) ⌝ }
     requires { ⌜ BinReady t (getD (now ws) i 0) (getD (now vs) i 0) (getD (now ws) j 0) (getD (now vs) j 0) ⌝ }
-    ensures value { λ r. ⌜ r ≡ opNumber t [] (lookup (now (ws .entry)) (now (vs .entry)) i ∷ lookup (now (ws .entry)) (now (vs .entry)) j ∷ []) ⌝ }
+    ensures value { λ r. ⌜ r ≡ opNumber t [] (lookup (now (ws .entry)) (now (vs .entry)) i
+        ∷ lookup (now (ws .entry)) (now (vs .entry)) j ∷ []) ⌝ }
 {
     operate::bin_value(t, ws[i], vs[i], ws[j], vs[j])
 }
 
 fn extend_at(ws: &[u64], vs: &[u64], t: u64, i: usize, n: u64) -> u64
     requires { ⌜ (i < length (now ws)) × (i < length (now vs)) ⌝ }
-    requires { ⌜ (isExtend t ≡ true) × (0 < getD (now ws) i 0) × (getD (now ws) i 0 + n ≤ 64) × (getD (now vs) i 0 < 2 ^ getD (now ws) i 0) ⌝ }
+    requires { ⌜ (isExtend t ≡ true) × (0 < getD (now ws) i 0) × (getD (now ws) i 0 + n ≤ 64)
+        × (getD (now vs) i 0 < 2 ^ getD (now ws) i 0) ⌝ }
     ensures value { λ r. ⌜ r ≡ opNumber t (n ∷ []) (lookup (now (ws .entry)) (now (vs .entry)) i ∷ []) ⌝ }
 {
     operate::extend_value(t, ws[i], n, vs[i])

@@ -106,7 +106,8 @@ pub fn graphs(
     ensures source_list { λ r. ⌜ (isAccepted r ≡ true → now (ws0 .exit)
         ≡ widths Graph.Source (length (now (ebits .entry))) (now (eside .entry)) (now (source .entry))
         ++ drop (rowCount Graph.Source (now (source .entry))) (now (ws0 .entry))) ⌝ }
-    ensures target_list { λ r. ⌜ (isAccepted r ≡ true → now (ws1 .exit) ≡ widths Graph.Target (length (now (tbits .entry))) [] (now (target .entry))
+    ensures target_list { λ r. ⌜ (isAccepted r ≡ true → now (ws1 .exit)
+        ≡ widths Graph.Target (length (now (tbits .entry))) [] (now (target .entry))
         ++ drop (rowCount Graph.Target (now (target .entry))) (now (ws1 .entry))) ⌝ }
 {
     let stop0 = wf::graph_wf(Graph::Source, source, ebits.len() as u64, eside, ws0);

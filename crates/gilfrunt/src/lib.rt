@@ -21,7 +21,8 @@ pub extern "C" fn gilfrunt_source_widths(
     side: &[u64],
     widths: &mut [u64],
 ) -> Words
-    ensures outcome { λ r. ⌜ told r (now (widths .exit) ∷ []) ≡ toldOf (sourceWidths (now (source .entry)) (now (bits .entry)) (now (side .entry))
+    ensures outcome { λ r. ⌜ told r (now (widths .exit) ∷ [])
+        ≡ toldOf (sourceWidths (now (source .entry)) (now (bits .entry)) (now (side .entry))
         (now (widths .entry))) ⌝ }
 {
     told::source_widths(source, bits, side, widths)
@@ -50,7 +51,8 @@ pub extern "C" fn gilfrunt_values(
     widths: &mut [u64],
     numbers: &mut [u64],
 ) -> Words
-    ensures outcome { λ r. ⌜ told r (now (widths .exit) ∷ now (numbers .exit) ∷ []) ≡ toldOf (values (now (target .entry)) (now (bits .entry))
+    ensures outcome { λ r. ⌜ told r (now (widths .exit) ∷ now (numbers .exit) ∷ [])
+        ≡ toldOf (values (now (target .entry)) (now (bits .entry))
         (now (given .entry)) (now (widths .entry)) (now (numbers .entry))) ⌝ }
 {
     told::values(target, bits, given, widths, numbers)
@@ -78,9 +80,9 @@ pub extern "C" fn gilfrunt_check(
         ≡ toldOf (check (lowering (now (source .entry)) (now (ebits .entry)) (now (eside .entry)) (now (eroots .entry)) (now (map .entry))
         (now (reads .entry)) (now (calls .entry)) (now (cargs .entry)) (now (target .entry)) (now (tbits .entry)) (now (troots .entry)))
         (now (ws0 .entry)) (now (ws1 .entry)) (now (classes .entry)) (now (entries .entry))) ⌝ }
-    ensures sound { λ r. ⌜ (r .number ≡ 0 → Sound (lowering (now (source .entry)) (now (ebits .entry)) (now (eside .entry)) (now (eroots .entry))
-        (now (map .entry)) (now (reads .entry)) (now (calls .entry)) (now (cargs .entry)) (now (target .entry)) (now (tbits .entry))
-        (now (troots .entry)))) ⌝ }
+    ensures sound { λ r. ⌜ (r .number ≡ 0 → Sound (lowering (now (source .entry)) (now (ebits .entry)) (now (eside .entry))
+        (now (eroots .entry)) (now (map .entry)) (now (reads .entry)) (now (calls .entry)) (now (cargs .entry)) (now (target .entry))
+        (now (tbits .entry)) (now (troots .entry)))) ⌝ }
 {
     let a = checker::check(
         source,
@@ -126,7 +128,8 @@ pub extern "C" fn gilfrunt_judge(
     entries: &mut [u64],
     words: &mut [u64],
 ) -> Words
-    ensures outcome { λ r. ⌜ told r (now (ws0 .exit) ∷ now (ws1 .exit) ∷ now (classes .exit) ∷ now (entries .exit) ∷ now (words .exit) ∷ [])
+    ensures outcome { λ r. ⌜ told r (now (ws0 .exit) ∷ now (ws1 .exit) ∷ now (classes .exit) ∷ now (entries .exit)
+        ∷ now (words .exit) ∷ [])
         ≡ toldOf (judge (now (book .entry)) (now (ws0 .entry)) (now (ws1 .entry)) (now (classes .entry)) (now (entries .entry))
         (now (words .entry))) ⌝ }
     ensures sound { λ r. ⌜ (r .number ≡ 0 → Sound (held (now (book .entry)))) ⌝ }

@@ -35,7 +35,7 @@ use Rattle.soundness.specs.Passed.{Passed}
 use Rattle.soundness.proofs.Images.{eq-row, ite-row}
 use Rattle.meaning.proofs.Values.{Pairs, pairs-formed}
 use Rattle.soundness.proofs.Classes.{usedEnd, usedAt, used, Uses, Used}
-use Rattle.soundness.proofs.Owners.{SentBefore, Behind, OwnedBy, use-owner, use-behind, live}
+use Rattle.soundness.proofs.Owners.{SentBefore, Behind, use-behind, live}
 
 -- a number of a list
 abbrev pub Among : ℕ → List ℕ → Type 0
@@ -213,12 +213,6 @@ module _ (L : Lowering) where
   needs-before (by-call q) i y b (l, h, n) = rw n at (b l h)
 
 module _ (L : Lowering) (P : Passed L) (F : Formed L) (M : Matched L) (small : targetRows L ≤ MAX) where
-  -- a variable that the image of row i reaches has an owner, behind which a row up to row i stands that uses it
-  pub reach-owner : (i t w : ℕ) → Mapped L i → T L t ≡ Var w → Reach L (m L i) t → (x : ℕ) × (x ≤ i) × Uses L x t × OwnedBy L x t
-  reach-owner i t w x e g =
-      let (y, l, u) = reached L F M i x .user t w e g in
-      (y, l, u, use-owner L P F small y t (omega (arith, reach-down L F M (m L i) t (x .1) g, x .1)) u)
-
   -- an owner's variable is a Var, what it needs is a row of the target
   owner-var : (o : Owner) (r : ℕ) → Owns L o r → (w : ℕ) × (T L r ≡ Var w)
   owner-var (by-var i) r (x, (w, e), q) = (w, rw (← q) (subst (Found L i) e (M .of-row i x)))

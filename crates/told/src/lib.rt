@@ -9,7 +9,8 @@ ghost use Rattle.book.specs.Book.{sectionAnswer};
 use answers::Words;
 
 pub fn source_widths(source: &[u64], bits: &[u8], side: &[u64], widths: &mut [u64]) -> Words
-    ensures outcome { λ r. ⌜ told r (now (widths .exit) ∷ []) ≡ toldOf (sourceWidths (now (source .entry)) (now (bits .entry)) (now (side .entry))
+    ensures outcome { λ r. ⌜ told r (now (widths .exit) ∷ [])
+        ≡ toldOf (sourceWidths (now (source .entry)) (now (bits .entry)) (now (side .entry))
         (now (widths .entry))) ⌝ }
 {
     let a = widths::source_widths(source, bits, side, widths);
@@ -38,7 +39,8 @@ pub fn values(
     widths: &mut [u64],
     numbers: &mut [u64],
 ) -> Words
-    ensures outcome { λ r. ⌜ told r (now (widths .exit) ∷ now (numbers .exit) ∷ []) ≡ toldOf (values (now (target .entry)) (now (bits .entry))
+    ensures outcome { λ r. ⌜ told r (now (widths .exit) ∷ now (numbers .exit) ∷ [])
+        ≡ toldOf (values (now (target .entry)) (now (bits .entry))
         (now (given .entry)) (now (widths .entry)) (now (numbers .entry))) ⌝ }
 {
     let a = values::values(target, bits, given, widths, numbers);

@@ -8,7 +8,8 @@ use rows::Graph;
 
 // The numbers of a target's rows under the words given for its variables, with its widths, or the first refusal by 01's order.
 pub fn values(target: &[u64], bits: &[u8], given: &[u64], ws: &mut [u64], vs: &mut [u64]) -> Answer
-    ensures outcome { λ r. ⌜ result r (now (ws .exit) ∷ now (vs .exit) ∷ []) ≡ values (now (target .entry)) (now (bits .entry)) (now (given .entry))
+    ensures outcome { λ r. ⌜ result r (now (ws .exit) ∷ now (vs .exit) ∷ [])
+        ≡ values (now (target .entry)) (now (bits .entry)) (now (given .entry))
         (now (ws .entry)) (now (vs .entry)) ⌝ }
 {
     if rows::is_ragged(Graph::Target, target) {
