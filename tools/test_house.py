@@ -102,6 +102,31 @@ class Definitions(unittest.TestCase):
                 self.assertNotEqual(short(path) in named, "-- Inner: " in read(path), short(path))
 
 
+class Table(unittest.TestCase):
+    """The table of operand facts (02, 2.2) in code and in definitions: the same lines, numbers and tags."""
+    CODE = os.path.join(CRATES, "rules", "src")
+    KINDS = {"j": "join", "l": "side", "s": "source"}
+
+    def test_line_for_line(self):
+        word = r"(\d), (\d), join::(\w+), side::(\w+), source::(\w+)"
+        code = re.findall(rf"(?m)^    Line\({word}\), // (\d+) (\w+)$", read(os.path.join(self.CODE, "lines.rt")))
+        defined = re.findall(r"(?m)^    (?:∷ )?line (\d) (\d) j(\w+) l(\w+) s(\w+)  -- (\d+) (\w+)$",
+                             read(os.path.join(CRATES, "rules", "specs", "Table.antt")))
+        plain = [tuple(part.replace("_", "").lower() for part in line) for line in code]
+        self.assertEqual(plain, [tuple(part.lower() for part in line) for line in defined])
+        tags = re.findall(r"(?m)^pub const (\w+): u64 = (\d+);$", read(os.path.join(CRATES, "rows", "src", "tag.rt")))
+        self.assertEqual([(line[5], line[6]) for line in plain],
+                         [(number, name.replace("_", "").lower()) for name, number in tags])
+
+    def test_numbers(self):
+        defined = read(os.path.join(CRATES, "rules", "specs", "Table.antt"))
+        for letter, kind in self.KINDS.items():
+            code = re.findall(r"(?m)^pub const (\w+): u8 = (\d+);$", read(os.path.join(self.CODE, kind + ".rt")))
+            names = re.findall(rf"(?m)^{letter}([A-Z]\w*) = (\d+)$", defined)
+            self.assertEqual([(name.replace("_", "").lower(), number) for name, number in code],
+                             [(name.lower(), number) for name, number in names], kind)
+
+
 class Text(unittest.TestCase):
     def test_lines_of_code_and_definitions(self):
         for path in files("src", "specs"):

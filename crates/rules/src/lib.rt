@@ -1,10 +1,16 @@
-// The width rules of the core tags: how the widths of a row's operands join.
+// The width rules: a table with a line for each tag, and what its rules and sources are, by the number of a row's operands.
 ghost use mathlib.Core.Path.{_≡_};
-ghost use mathlib.Core.List.{[]};
-ghost use Prim.Native.Nat.{_+_};
-ghost use Rattle.rows.specs.declared.Node.{Node};
-ghost use Rattle.rules.specs.Rule.{capped, unWidth, binWidth, extractWidth, iteWidth, nodeWidth};
-use rows::tag;
+ghost use mathlib.Core.Bool.{cond};
+ghost use Prim.Native.Nat.{ℕ, _+_, _-_};
+ghost use lib.Dec.{leb};
+ghost use Rattle.rules.specs.Rule.{capped, same};
+ghost use Rattle.rules.specs.Table.{from0, from1, fromPart, fromCell, from2, from3};
+ghost use Rattle.rules.specs.Table.{join0, join1, joinPart, joinIndex, join2, join3, inPart};
+
+pub mod join;
+pub mod lines;
+pub mod side;
+pub mod source;
 
 // No width passes it.
 const CEILING: u64 = rows::MAX;
@@ -15,7 +21,7 @@ pub const INDEX_WIDTH: u64 = 32;
 pub const CELL_WIDTH: u64 = 8;
 
 // The sum of two widths, or 0 where it passes the ceiling.
-pub fn sum_width(a: u64, b: u64) -> u64
+fn sum_width(a: u64, b: u64) -> u64
     ensures width { λ r. ⌜ r ≡ capped (a + b) ⌝ }
 {
     if CEILING - b < a {
@@ -24,78 +30,213 @@ pub fn sum_width(a: u64, b: u64) -> u64
     a + b
 }
 
-pub fn un_width(t: u64, a: u64) -> u64
-    ensures width { λ r. ⌜ r ≡ capped (unWidth t a) ⌝ }
-{
-    if t != tag::NOT {
-        return a;
-    }
-    if a == 1 { 1 } else { 0 }
-}
-
-pub fn bool_width(a: u64, b: u64) -> u64
-    ensures width { λ r. ⌜ r ≡ capped (binWidth 30 a b) ⌝ }
-{
-    if a != 1 {
-        return 0;
-    }
-    if b == 1 { 1 } else { 0 }
-}
-
-pub fn bin_width(t: u64, a: u64, b: u64) -> u64
-    ensures width { λ r. ⌜ r ≡ capped (binWidth t a b) ⌝ }
-{
-    if t == tag::CONCAT {
-        return sum_width(a, b);
-    }
-    if t == tag::BOOL_AND {
-        return bool_width(a, b);
-    }
-    if t == tag::BOOL_OR {
-        return bool_width(a, b);
-    }
-    if a != b {
-        return 0;
-    }
-    if t < tag::EQ {
-        return a;
-    }
-    if t < tag::NOT { 1 } else { a }
-}
-
-pub fn extract_width(high: u64, low: u64, a: u64) -> u64
-    ensures width { λ r. ⌜ r ≡ capped (extractWidth high low a) ⌝ }
+// The number of bits from low up to high.
+fn part_width(high: u64, low: u64) -> u64
+    ensures width { λ r. ⌜ r ≡ capped (high - low + 1) ⌝ }
 {
     if high < low {
-        return 0;
+        return 1;
     }
-    if a <= high {
-        return 0;
-    }
-    high - low + 1
+    sum_width(high - low, 1)
 }
 
-pub fn ite_width(c: u64, t: u64, e: u64) -> u64
-    ensures width { λ r. ⌜ r ≡ capped (iteWidth c t e) ⌝ }
-{
-    if c != 1 {
-        return 0;
-    }
-    if t == e { t } else { 0 }
-}
-
-// Rows without operands.
-pub fn var_row(w: u64) -> u64
-    ensures width { λ r. ⌜ r ≡ nodeWidth 0 [] [] (Node.Var w) ⌝ }
-{
-    w
-}
-
-pub fn const_row(nbits: u64, s: u64, w: u64) -> u64
-    ensures width { λ r. ⌜ r ≡ nodeWidth nbits [] [] (Node.Const s w) ⌝ }
+// The bits of a constant lie in the bit list.
+fn bits_in(nbits: u64, s: u64, w: u64) -> bool
+    ensures test { λ r. ⌜ r ≡ leb (s + w) nbits ⌝ }
 {
     if nbits < s {
+        return false;
+    }
+    if nbits - s < w { false } else { true }
+}
+
+// The bits from low up to high lie in a row of width a.
+fn part_in(high: u64, low: u64, a: u64) -> bool
+    ensures test { λ r. ⌜ ((w : ℕ) → inPart high low a w ≡ cond r w 0) ⌝ }
+{
+    if high < low {
+        return false;
+    }
+    high < a
+}
+
+// A first width of one bit, and two others that are one.
+fn choice_in(a: u64, b: u64, c: u64) -> bool
+    ensures test { λ r. ⌜ ((w : ℕ) → same a 1 (same b c w) ≡ cond r w 0) ⌝ }
+{
+    if a != 1 {
+        return false;
+    }
+    b == c
+}
+
+// Rows without operands: whether the rule lets a width pass, the source's width, both together.
+fn joins0(rule: u8, nbits: u64, f1: u64, f2: u64) -> bool
+    ensures test { λ r. ⌜ ((w : ℕ) → join0 rule nbits f1 f2 w ≡ cond r w 0) ⌝ }
+{
+    match rule {
+        join::ANY => true,
+        join::IN_BITS => bits_in(nbits, f1, f2),
+        _ => false,
+    }
+}
+
+fn width_from0(from: u8, f1: u64, f2: u64) -> u64
+    ensures width { λ r. ⌜ r ≡ capped (from0 from f1 f2) ⌝ }
+{
+    match from {
+        source::FIELD1 => f1,
+        source::FIELD2 => f2,
+        _ => 0,
+    }
+}
+
+pub fn width0(rule: u8, from: u8, nbits: u64, f1: u64, f2: u64) -> u64
+    ensures width { λ r. ⌜ r ≡ capped (join0 rule nbits f1 f2 (from0 from f1 f2)) ⌝ }
+{
+    if joins0(rule, nbits, f1, f2) {
+        width_from0(from, f1, f2)
+    } else {
+        0
+    }
+}
+
+// The same with one operand in field 1, of width a.
+fn joins1(rule: u8, a: u64) -> bool
+    ensures test { λ r. ⌜ ((w : ℕ) → join1 rule a w ≡ cond r w 0) ⌝ }
+{
+    match rule {
+        join::ANY => true,
+        join::ONE_BIT => a == 1,
+        _ => false,
+    }
+}
+
+fn width_from1(from: u8, f2: u64, a: u64) -> u64
+    ensures width { λ r. ⌜ r ≡ capped (from1 from f2 a) ⌝ }
+{
+    match from {
+        source::FIRST => a,
+        source::ONE => 1,
+        source::EXTENDED => sum_width(a, f2),
+        _ => 0,
+    }
+}
+
+pub fn width1(rule: u8, from: u8, f2: u64, a: u64) -> u64
+    ensures width { λ r. ⌜ r ≡ capped (join1 rule a (from1 from f2 a)) ⌝ }
+{
+    if joins1(rule, a) {
+        width_from1(from, f2, a)
+    } else {
+        0
+    }
+}
+
+// With one operand in field 3, of which a part is taken.
+fn joins_part(rule: u8, high: u64, low: u64, a: u64) -> bool
+    ensures test { λ r. ⌜ ((w : ℕ) → joinPart rule high low a w ≡ cond r w 0) ⌝ }
+{
+    if rule != join::PART {
+        return false;
+    }
+    part_in(high, low, a)
+}
+
+pub fn width_part(rule: u8, from: u8, high: u64, low: u64, a: u64) -> u64
+    ensures width { λ r. ⌜ r ≡ capped (joinPart rule high low a (fromPart from high low)) ⌝ }
+{
+    if !joins_part(rule, high, low, a) {
         return 0;
     }
-    if nbits - s < w { 0 } else { w }
+    if from == source::PART {
+        part_width(high, low)
+    } else {
+        0
+    }
+}
+
+// With one operand in field 2, the index of an array.
+pub fn width_index(rule: u8, from: u8, array: u64, a: u64) -> u64
+    ensures width { λ r. ⌜ r ≡ capped (joinIndex rule array a (fromCell from array)) ⌝ }
+{
+    if rule != join::INDEX {
+        return 0;
+    }
+    if a != INDEX_WIDTH {
+        return 0;
+    }
+    if from == source::CELL { CELL_WIDTH } else { 0 }
+}
+
+// The same with two operands of one width a, then of widths a and b.
+fn joins_same(rule: u8, a: u64) -> bool
+    ensures test { λ r. ⌜ ((w : ℕ) → join2 rule a a w ≡ cond r w 0) ⌝ }
+{
+    match rule {
+        join::ANY => true,
+        join::EQUAL => true,
+        join::ONE_BIT => a == 1,
+        _ => false,
+    }
+}
+
+// Most rows of two operands have them of one width: that is looked at first.
+fn joins2(rule: u8, a: u64, b: u64) -> bool
+    ensures test { λ r. ⌜ ((w : ℕ) → join2 rule a b w ≡ cond r w 0) ⌝ }
+{
+    if a != b {
+        return rule == join::ANY;
+    }
+    joins_same(rule, a)
+}
+
+fn width_from2(from: u8, a: u64, b: u64) -> u64
+    ensures width { λ r. ⌜ r ≡ capped (from2 from a b) ⌝ }
+{
+    match from {
+        source::FIRST => a,
+        source::ONE => 1,
+        source::SUM => sum_width(a, b),
+        _ => 0,
+    }
+}
+
+pub fn width2(rule: u8, from: u8, a: u64, b: u64) -> u64
+    ensures width { λ r. ⌜ r ≡ capped (join2 rule a b (from2 from a b)) ⌝ }
+{
+    if joins2(rule, a, b) {
+        width_from2(from, a, b)
+    } else {
+        0
+    }
+}
+
+// The same with three operands, of widths a, b and c.
+fn joins3(rule: u8, a: u64, b: u64, c: u64) -> bool
+    ensures test { λ r. ⌜ ((w : ℕ) → join3 rule a b c w ≡ cond r w 0) ⌝ }
+{
+    match rule {
+        join::CHOICE => choice_in(a, b, c),
+        _ => false,
+    }
+}
+
+fn width_from3(from: u8, b: u64) -> u64
+    ensures width { λ r. ⌜ r ≡ capped (from3 from b) ⌝ }
+{
+    match from {
+        source::SECOND => b,
+        _ => 0,
+    }
+}
+
+pub fn width3(rule: u8, from: u8, a: u64, b: u64, c: u64) -> u64
+    ensures width { λ r. ⌜ r ≡ capped (join3 rule a b c (from3 from b)) ⌝ }
+{
+    if joins3(rule, a, b, c) {
+        width_from3(from, b)
+    } else {
+        0
+    }
 }

@@ -1,12 +1,9 @@
 // Side lists: the pairs of a Select and the arguments of a Call against the widths of earlier rows.
 ghost use mathlib.Core.Path.{_≡_};
 ghost use Prim.Native.Nat.{_+_, _*_, _<_, _≤_};
-ghost use Rattle.rows.specs.declared.Node.{Node};
 ghost use lib.ListN.{length};
 ghost use Rattle.lists.specs.First.{none};
-ghost use Rattle.rules.specs.Rule.{hasWidth, pairBad, chainGood, argBad, argsGood, nodeWidth};
-use rules::CELL_WIDTH;
-use rules::INDEX_WIDTH;
+ghost use Rattle.rules.specs.Rule.{hasWidth, pairBad, chainGood, argBad, argsGood};
 
 // Row a is earlier and has width w.
 pub fn has_width(ws: &[u64], a: u64, w: u64) -> bool
@@ -92,27 +89,4 @@ pub fn args_wf(ws: &[u64], side: &[u64], s: u64, k: u64) -> bool
         return false;
     }
     list_wf(ws.len() as u64, side, s as usize, k as usize)
-}
-
-pub fn select_row(ws: &[u64], side: &[u64], array: u64, j: u64, s: u64, k: u64) -> u64
-    ensures width { λ r. ⌜ r ≡ nodeWidth 0 (now (side .entry)) (now (ws .entry)) (Node.Select array j s k) ⌝ }
-{
-    if ws.len() as u64 <= j {
-        return 0;
-    }
-    let i = j as usize;
-    if ws[i] != INDEX_WIDTH {
-        return 0;
-    }
-    if chain_wf(ws, side, s, k, INDEX_WIDTH, CELL_WIDTH) {
-        CELL_WIDTH
-    } else {
-        0
-    }
-}
-
-pub fn call_row(ws: &[u64], side: &[u64], f: u64, w: u64, s: u64, k: u64) -> u64
-    ensures width { λ r. ⌜ r ≡ nodeWidth 0 (now (side .entry)) (now (ws .entry)) (Node.Call f w s k) ⌝ }
-{
-    if args_wf(ws, side, s, k) { w } else { 0 }
 }

@@ -1,15 +1,22 @@
--- One pass that stops at a badly encoded or ill-formed row finds both. Assumes nothing.
+-- One pass that stops at a badly encoded or ill-formed row finds both; a good row's width is that of its line in the table. Assumes nothing.
 use Prim.Native.Nat.{ℕ, _<_, _≤_}
-use mathlib.Core.Path.{_≡_, refl}
+use mathlib.Core.Path.{_≡_, refl, _∙_, sym, ap}
 use mathlib.Core.Bool.{Bool, true, false, cond, not}
 use mathlib.Core.List.{List}
 use native.Mathlib.Omega.{arith}
 use borrow.Author.Tests.{eqb-false, not-false}
 use lib.Dec.{eqb}
+use lib.ListN.{getD}
 use Rattle.lists.proofs.First.{first-at, first-none, first-before, first-hit}
 use Rattle.rows.specs.declared.Graph.{Graph}
 use Rattle.rows.specs.Row.{rowCount, rowAt}
+use Rattle.rows.specs.Node.{nodeOf}
 use Rattle.encoding.specs.Encoding.{rowGood, rowBad, badRow}
+use Rattle.encoding.proofs.Encoding.{good-tag}
+use Rattle.rules.specs.declared.lines.Line.{Line}
+use Rattle.rules.specs.Rule.{nodeWidth}
+use Rattle.rules.specs.Table.{line, table, lineWidth}
+use Rattle.rules.proofs.Table.{line-rule}
 use Rattle.wf.specs.Widths.{rowWidth, widthsTo, rowIll, illRow}
 use Rattle.wf.specs.Pass.{goodWidth, rowStops, stopRow}
 
@@ -21,6 +28,16 @@ both-pass false w e = absurd (eqb-false 0 0 e refl)
 module _ (graph : Graph) (nbits : ℕ) (side g : List ℕ) where
   passed : (i : ℕ) → rowStops graph nbits side g i ≡ false → (rowBad graph g i ≡ false) × (rowIll graph nbits side g i ≡ false)
   passed i e = both-pass (rowGood graph (rowAt graph g i)) (rowWidth graph nbits side g i (widthsTo graph nbits side g i)) e
+
+  -- a good row has the width that its tag's line gives it
+  pub line-good : (i : ℕ) (ws : List ℕ) (lines : List Line) (r : List ℕ) → lines ≡ table → r ≡ rowAt graph g i → rowGood graph r ≡ true
+      → lineWidth nbits side ws (getD lines (getD r 0 0) (line 0 0 0 0 0)) (getD r 1 0) (getD r 2 0) (getD r 3 0) (getD r 4 0)
+      ≡ goodWidth graph nbits side g i ws
+  line-good i ws lines r whole e good =
+      ap (λ (ls : List Line). lineWidth nbits side ws (getD ls (getD r 0 0) (line 0 0 0 0 0)) (getD r 1 0) (getD r 2 0) (getD r 3 0) (getD r 4 0)) whole
+      ∙ line-rule nbits side ws (getD r 1 0) (getD r 2 0) (getD r 3 0) (getD r 4 0) (getD r 0 0) (good-tag graph r good)
+      ∙ ap (λ (x : List ℕ). nodeWidth nbits side ws (nodeOf x)) e
+      ∙ rw (sym (ap (rowGood graph) e) ∙ good)
 
   -- a row that is passed over has the rule's width
   pub good-width : (i : ℕ) → rowStops graph nbits side g i ≡ false

@@ -1,0 +1,53 @@
+-- Each line of the table is 01's rule for its tag: both sides are computed over the whole table, a number a tag, and are one list.
+-- Assumes nothing.
+use Prim.Native.Nat.{ℕ, zero, suc, _+_, _<_}
+use mathlib.Core.Path.{_≡_, refl, sym, ap, _∙_}
+use mathlib.Core.List.{List, [], _∷_}
+use native.Mathlib.Nat.{not-suc-le-zero, le-of-suc-le-suc, add-zero, add-suc, suc-add, zero-add}
+use lib.ListN.{length, getD}
+use Rattle.rows.specs.Node.{nodeFrom}
+use Rattle.rules.specs.declared.lines.Line.{Line}
+use Rattle.rules.specs.Rule.{nodeWidth}
+use Rattle.rules.proofs.Rule.{either-zero}
+use Rattle.rules.specs.Table.{table, lineAt, join0, joinIndex, lineWidth}
+
+-- a number of each entry of a list and its place, counted from i
+along : {A : Type 0} → (ℕ → A → ℕ) → ℕ → List A → List ℕ
+along f i [] = []
+along f i (x ∷ xs) = f i x ∷ along f (suc i) xs
+
+along-at : {A : Type 0} (f : ℕ → A → ℕ) (d : A) (xs : List A) (i k : ℕ) → k < length xs → getD (along f i xs) k 0 ≡ f (i + k) (getD xs k d)
+unfolding along
+along-at f d [] i k h = absurd (not-suc-le-zero h)
+along-at f d (x ∷ xs) i zero h = rw add-zero
+along-at f d (x ∷ xs) i (suc k) h = along-at f d xs (suc i) k (le-of-suc-le-suc h) ∙ rw (add-suc, ← suc-add)
+
+-- two numbers of each entry that make one list are one at each
+along-same : {A : Type 0} (f g : ℕ → A → ℕ) (d : A) (xs : List A) → along f 0 xs ≡ along g 0 xs → (k : ℕ) → k < length xs
+    → f k (getD xs k d) ≡ g k (getD xs k d)
+along-same f g d xs e k h =
+    rw zero-add at (sym (along-at f d xs 0 k h) ∙ ap (λ (l : List ℕ). getD l k 0) e ∙ along-at g d xs 0 k h)
+
+module _ (nbits : ℕ) (side ws : List ℕ) (a b c d : ℕ) where
+  by-line : ℕ → Line → ℕ
+  by-line t l = lineWidth nbits side ws l a b c d
+
+  by-rule : ℕ → Line → ℕ
+  by-rule t l = nodeWidth nbits side ws (nodeFrom t a b c d)
+
+  -- the whole table: what its lines give is what the rules give
+  whole : along by-line 0 table ≡ along by-rule 0 table
+  unfolding along by-line by-rule
+  whole = refl
+
+  -- a line is its tag's rule
+  pub line-rule : (t : ℕ) → t < 39 → lineWidth nbits side ws (lineAt t) a b c d ≡ nodeWidth nbits side ws (nodeFrom t a b c d)
+  unfolding by-line by-rule
+  line-rule t h = along-same by-line by-rule (lineAt 39) table whole t h
+
+-- no rule lets a width pass where there is none
+pub stop0 : (rule nbits f1 f2 : ℕ) → join0 rule nbits f1 f2 0 ≡ 0
+stop0 rule nbits f1 f2 = simp either-zero
+
+pub stop-index : (rule array a : ℕ) → joinIndex rule array a 0 ≡ 0
+stop-index rule array a = simp either-zero

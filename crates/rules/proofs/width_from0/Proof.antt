@@ -1,0 +1,19 @@
+-- An arm a source, and no width past them; a word is within the ceiling. Assumes nothing.
+use mathlib.Core.Path.{sym}
+use native.Mathlib.Omega.{arith}
+use borrow.Author.Tests.{ne-eqb}
+use Rattle.rules.proofs.Rule.{capped-word}
+use Rattle.rules.proofs.width_from0.Statement.{statement}
+use Rattle.rules.proofs.width_from0.Tie as tie
+
+returns : tie.Need-returns
+returns c = rw (c .match .keys1) (sym (capped-word _ (omega arith)))
+
+returns-2 : tie.Need-returns-2
+returns-2 c = rw (c .match .keys2) (sym (capped-word _ (omega arith)))
+
+returns-3 : tie.Need-returns-3
+returns-3 c = rw (ne-eqb _ _ (c .match .rest .0 .1), ne-eqb _ _ (c .match .rest .1))
+
+pub width-from0-spec : {M : Type 1} → statement M
+width-from0-spec = tie.close (tie.spec returns returns-2 returns-3)
