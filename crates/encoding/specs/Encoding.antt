@@ -23,13 +23,14 @@ fieldCount t = cond (ltb t tSelect) (cond (eqb t tVar) 1 (cond (isUn t) 1 (cond 
 abbrev pub fieldGood : ℕ → ℕ → ℕ → Bool
 fieldGood n k field = cond (ltb n k) (eqb field 0) true
 
--- 16: "unknown tag or unused field not 0". Every tag uses its first field
+-- the fields behind the first, which every tag uses
+abbrev pub fieldsGood : ℕ → ℕ → ℕ → ℕ → Bool
+fieldsGood n f2 f3 f4 = cond (fieldGood n 2 f2) (cond (fieldGood n 3 f3) (fieldGood n 4 f4) false) false
+
+-- 16: "unknown tag or unused field not 0"
 abbrev pub rowGood : Graph → List ℕ → Bool
 rowGood graph r =
-    let n = fieldCount (getD r 0 0) in
-    cond (ltb (getD r 0 0) (tagCount graph))
-    (cond (fieldGood n 2 (getD r 2 0)) (cond (fieldGood n 3 (getD r 3 0)) (fieldGood n 4 (getD r 4 0)) false) false)
-    false
+    cond (ltb (getD r 0 0) (tagCount graph)) (fieldsGood (fieldCount (getD r 0 0)) (getD r 2 0) (getD r 3 0) (getD r 4 0)) false
 
 abbrev pub rowBad : Graph → List ℕ → ℕ → Bool
 rowBad graph g i = not (rowGood graph (rowAt graph g i))

@@ -5,10 +5,10 @@ ghost use mathlib.Core.Bool.{false};
 ghost use Prim.Native.Nat.{ℕ, _<_, _≤_};
 ghost use lib.ListN.{length, getD};
 ghost use Rattle.rows.specs.Row.{rowCount};
-ghost use Rattle.encoding.specs.Encoding.{tagCount, fieldCount, fieldGood, rowGood, rowBad, badRow, badBit};
+ghost use Rattle.encoding.specs.Encoding.{tagCount, fieldCount, fieldGood, fieldsGood, rowGood, rowBad, badRow, badBit};
 use rows::tag;
 
-fn tag_count(graph: Graph) -> u64
+pub fn tag_count(graph: Graph) -> u64
     ensures count { λ r. ⌜ r ≡ tagCount graph ⌝ }
 {
     match graph {
@@ -40,6 +40,19 @@ fn field_good(n: u64, k: u64, field: u64) -> bool
     if n < k { field == 0 } else { true }
 }
 
+// With n fields in use, the others are 0; the first is always in use.
+pub fn fields_good(n: u64, f2: u64, f3: u64, f4: u64) -> bool
+    ensures test { λ r. ⌜ r ≡ fieldsGood n f2 f3 f4 ⌝ }
+{
+    if !field_good(n, 2, f2) {
+        return false;
+    }
+    if !field_good(n, 3, f3) {
+        return false;
+    }
+    field_good(n, 4, f4)
+}
+
 // A known tag, and 0 in each field that it doesn't use.
 pub fn row_good(graph: Graph, r: [u64; 5]) -> bool
     ensures test { λ b. ⌜ b ≡ rowGood graph r ⌝ }
@@ -48,14 +61,7 @@ pub fn row_good(graph: Graph, r: [u64; 5]) -> bool
     if tag_count(graph) <= t {
         return false;
     }
-    let n = field_count(t);
-    if !field_good(n, 2, r[2]) {
-        return false;
-    }
-    if !field_good(n, 3, r[3]) {
-        return false;
-    }
-    field_good(n, 4, r[4])
+    fields_good(field_count(t), r[2], r[3], r[4])
 }
 
 // The first row that is not good, or the number of rows, where those before `from` are good.

@@ -1,16 +1,48 @@
 // A row by its line of the table: each operand is an earlier row, their widths join by the line's rule, and its side list is good.
+// The fields that it does not use are 0, which is looked at here because its operands tell which they are.
 ghost use mathlib.Core.Path.{_≡_};
+ghost use mathlib.Core.Bool.{cond};
+ghost use lib.Dec.{eqb};
 ghost use lib.ListN.{getD};
-ghost use Rattle.rules.specs.Table.{argumentsGood, row0, row1, rowIndex, rowPart, row2, row3, oneWidth, lineWidth};
+ghost use Rattle.rules.specs.Table.{sField1, sExtended};
+ghost use Rattle.rules.specs.Table.{row0, row1, rowPart, row2, row3, rowIndex, rowArguments, coreWidth, listedWidth, lineWidth};
 use rules::CELL_WIDTH;
 use rules::INDEX_WIDTH;
+use rules::join;
 use rules::lines::Line;
 use rules::side;
+use rules::source;
+
+// How many fields a row uses: without operands, and with one in field 1.
+fn fields0(from: u8) -> u64
+    ensures count { λ r. ⌜ r ≡ cond (eqb from sField1) 1 2 ⌝ }
+{
+    if from == source::FIELD1 { 1 } else { 2 }
+}
+
+fn fields1(from: u8) -> u64
+    ensures count { λ r. ⌜ r ≡ cond (eqb from sExtended) 2 1 ⌝ }
+{
+    if from == source::EXTENDED { 2 } else { 1 }
+}
+
+// No operand.
+fn no_row(rule: u8, from: u8, nbits: u64, f1: u64, f2: u64, f3: u64, f4: u64) -> u64
+    ensures width { λ r. ⌜ r ≡ row0 rule from nbits f1 f2 f3 f4 ⌝ }
+{
+    if !encoding::fields_good(fields0(from), f2, f3, f4) {
+        return 0;
+    }
+    rules::width0(rule, from, nbits, f1, f2)
+}
 
 // One operand, in row x.
-fn one_row(rule: u8, from: u8, ws: &[u64], x: u64, f2: u64) -> u64
-    ensures width { λ r. ⌜ r ≡ row1 rule from (now (ws .entry)) x f2 ⌝ }
+fn one_row(rule: u8, from: u8, ws: &[u64], x: u64, f2: u64, f3: u64, f4: u64) -> u64
+    ensures width { λ r. ⌜ r ≡ row1 rule from (now (ws .entry)) x f2 f3 f4 ⌝ }
 {
+    if !encoding::fields_good(fields1(from), f2, f3, f4) {
+        return 0;
+    }
     if ws.len() as u64 <= x {
         return 0;
     }
@@ -19,9 +51,12 @@ fn one_row(rule: u8, from: u8, ws: &[u64], x: u64, f2: u64) -> u64
 }
 
 // A part of row x.
-fn part_row(rule: u8, from: u8, ws: &[u64], high: u64, low: u64, x: u64) -> u64
-    ensures width { λ r. ⌜ r ≡ rowPart rule from (now (ws .entry)) high low x ⌝ }
+fn part_row(rule: u8, from: u8, ws: &[u64], high: u64, low: u64, x: u64, f4: u64) -> u64
+    ensures width { λ r. ⌜ r ≡ rowPart rule from (now (ws .entry)) high low x f4 ⌝ }
 {
+    if !encoding::fields_good(3, low, x, f4) {
+        return 0;
+    }
     if ws.len() as u64 <= x {
         return 0;
     }
@@ -30,9 +65,12 @@ fn part_row(rule: u8, from: u8, ws: &[u64], high: u64, low: u64, x: u64) -> u64
 }
 
 // Two operands, in rows x and y.
-fn two_rows(rule: u8, from: u8, ws: &[u64], x: u64, y: u64) -> u64
-    ensures width { λ r. ⌜ r ≡ row2 rule from (now (ws .entry)) x y ⌝ }
+fn two_rows(rule: u8, from: u8, ws: &[u64], x: u64, y: u64, f3: u64, f4: u64) -> u64
+    ensures width { λ r. ⌜ r ≡ row2 rule from (now (ws .entry)) x y f3 f4 ⌝ }
 {
+    if !encoding::fields_good(2, y, f3, f4) {
+        return 0;
+    }
     let n = ws.len() as u64;
     if n <= x {
         return 0;
@@ -46,9 +84,12 @@ fn two_rows(rule: u8, from: u8, ws: &[u64], x: u64, y: u64) -> u64
 }
 
 // Three operands, in rows x, y and z.
-fn three_rows(rule: u8, from: u8, ws: &[u64], x: u64, y: u64, z: u64) -> u64
-    ensures width { λ r. ⌜ r ≡ row3 rule from (now (ws .entry)) x y z ⌝ }
+fn three_rows(rule: u8, from: u8, ws: &[u64], x: u64, y: u64, z: u64, f4: u64) -> u64
+    ensures width { λ r. ⌜ r ≡ row3 rule from (now (ws .entry)) x y z f4 ⌝ }
 {
+    if !encoding::fields_good(3, y, z, f4) {
+        return 0;
+    }
     let n = ws.len() as u64;
     if n <= x {
         return 0;
@@ -68,7 +109,6 @@ fn three_rows(rule: u8, from: u8, ws: &[u64], x: u64, y: u64, z: u64) -> u64
 // An index in row x, and k pairs from s on in the side list.
 fn index_row(
     rule: u8,
-    list: u8,
     from: u8,
     ws: &[u64],
     side: &[u64],
@@ -77,12 +117,9 @@ fn index_row(
     s: u64,
     k: u64,
 ) -> u64
-    ensures width { λ r. ⌜ r ≡ rowIndex rule list from (now (side .entry)) (now (ws .entry)) array x s k ⌝ }
+    ensures width { λ r. ⌜ r ≡ rowIndex rule from (now (side .entry)) (now (ws .entry)) array x s k ⌝ }
 {
     if ws.len() as u64 <= x {
-        return 0;
-    }
-    if list != side::PAIRS {
         return 0;
     }
     if !sides::chain_wf(ws, side, s, k, INDEX_WIDTH, CELL_WIDTH) {
@@ -92,61 +129,64 @@ fn index_row(
     rules::width_index(rule, from, array, ws[i])
 }
 
-// No operand; k arguments from s on in the side list, or nothing there.
-fn no_row(
-    rule: u8,
-    list: u8,
-    from: u8,
-    nbits: u64,
-    ws: &[u64],
-    side: &[u64],
-    f1: u64,
-    f2: u64,
-    s: u64,
-    k: u64,
-) -> u64
-    ensures width { λ r. ⌜ r ≡ row0 rule list from nbits (now (side .entry)) (now (ws .entry)) f1 f2 s k ⌝ }
+// No operand, and k arguments from s on in the side list.
+fn arguments_row(rule: u8, from: u8, ws: &[u64], side: &[u64], f2: u64, s: u64, k: u64) -> u64
+    ensures width { λ r. ⌜ r ≡ rowArguments rule from (now (side .entry)) (now (ws .entry)) f2 s k ⌝ }
 {
-    if !arguments_wf(list, ws, side, s, k) {
+    if rule != join::ANY {
         return 0;
     }
-    rules::width0(rule, from, nbits, f1, f2)
-}
-
-fn arguments_wf(list: u8, ws: &[u64], side: &[u64], s: u64, k: u64) -> bool
-    ensures test { λ r. ⌜ r ≡ argumentsGood list (now (side .entry)) (now (ws .entry)) s k ⌝ }
-{
-    if list != side::ARGUMENTS {
-        return true;
+    if !sides::args_wf(ws, side, s, k) {
+        return 0;
     }
-    sides::args_wf(ws, side, s, k)
+    if from == source::FIELD2 { f2 } else { 0 }
 }
 
-// One operand, by its field.
-fn one_width(line: Line, f1: u64, f2: u64, f3: u64, f4: u64, side: &[u64], ws: &[u64]) -> u64
-    ensures width { λ w. ⌜ w ≡ oneWidth (now (side .entry)) (now (ws .entry)) line f1 f2 f3 f4 ⌝ }
+// Rows without a side list, by the number of operands; a single one by its field.
+fn core_width(line: Line, nbits: u64, f1: u64, f2: u64, f3: u64, f4: u64, ws: &[u64]) -> u64
+    ensures width { λ w. ⌜ w ≡ coreWidth nbits (now (ws .entry)) line f1 f2 f3 f4 ⌝ }
 {
-    let place = line.1;
-    match place {
-        1 => one_row(line.2, line.4, ws, f1, f2),
-        2 => index_row(line.2, line.3, line.4, ws, side, f1, f2, f3, f4),
-        _ => part_row(line.2, line.4, ws, f1, f2, f3),
+    let count = line.0;
+    match count {
+        0 => no_row(line.2, line.4, nbits, f1, f2, f3, f4),
+        1 => {
+            if line.1 == 1 {
+                one_row(line.2, line.4, ws, f1, f2, f3, f4)
+            } else {
+                part_row(line.2, line.4, ws, f1, f2, f3, f4)
+            }
+        }
+        2 => two_rows(line.2, line.4, ws, f1, f2, f3, f4),
+        _ => three_rows(line.2, line.4, ws, f1, f2, f3, f4),
     }
 }
 
-// The width that a line gives a row after rows of widths ws, or 0 where it is ill-formed: by the number of operands.
+// Rows with one: pairs beside an operand in field 2, arguments beside none.
+fn listed_width(line: Line, f1: u64, f2: u64, f3: u64, f4: u64, side: &[u64], ws: &[u64]) -> u64
+    ensures width { λ w. ⌜ w ≡ listedWidth (now (side .entry)) (now (ws .entry)) line f1 f2 f3 f4 ⌝ }
+{
+    if line.3 == side::PAIRS {
+        if line.0 != 1 {
+            return 0;
+        }
+        if line.1 != 2 {
+            return 0;
+        }
+        return index_row(line.2, line.4, ws, side, f1, f2, f3, f4);
+    }
+    if line.0 != 0 {
+        return 0;
+    }
+    arguments_row(line.2, line.4, ws, side, f2, f3, f4)
+}
+
+// The width that a line gives a row after rows of widths ws, or 0 where it is ill-formed or a field that it does not use is not 0.
 pub fn line_width(line: Line, r: [u64; 5], nbits: u64, side: &[u64], ws: &[u64]) -> u64
     ensures width { λ w. ⌜ w ≡ lineWidth nbits (now (side .entry)) (now (ws .entry)) line (getD r 1 0) (getD r 2 0) (getD r 3 0) (getD r 4 0) ⌝ }
 {
-    let f1 = r[1];
-    let f2 = r[2];
-    let f3 = r[3];
-    let f4 = r[4];
-    let count = line.0;
-    match count {
-        0 => no_row(line.2, line.3, line.4, nbits, ws, side, f1, f2, f3, f4),
-        1 => one_width(line, f1, f2, f3, f4, side, ws),
-        2 => two_rows(line.2, line.4, ws, f1, f2),
-        _ => three_rows(line.2, line.4, ws, f1, f2, f3),
+    if line.3 == side::NONE {
+        core_width(line, nbits, r[1], r[2], r[3], r[4], ws)
+    } else {
+        listed_width(line, r[1], r[2], r[3], r[4], side, ws)
     }
 }

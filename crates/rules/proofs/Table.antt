@@ -2,14 +2,16 @@
 -- Assumes nothing.
 use Prim.Native.Nat.{ℕ, zero, suc, _+_, _<_}
 use mathlib.Core.Path.{_≡_, refl, sym, ap, _∙_}
+use mathlib.Core.Bool.{cond}
 use mathlib.Core.List.{List, [], _∷_}
 use native.Mathlib.Nat.{not-suc-le-zero, le-of-suc-le-suc, add-zero, add-suc, suc-add, zero-add}
 use lib.ListN.{length, getD}
 use Rattle.rows.specs.Node.{nodeFrom}
+use Rattle.encoding.specs.Encoding.{fieldCount, fieldsGood}
 use Rattle.rules.specs.declared.lines.Line.{Line}
 use Rattle.rules.specs.Rule.{nodeWidth}
 use Rattle.rules.proofs.Rule.{either-zero}
-use Rattle.rules.specs.Table.{table, lineAt, join0, joinIndex, lineWidth}
+use Rattle.rules.specs.Table.{table, lineAt, joinIndex, lineWidth}
 
 -- a number of each entry of a list and its place, counted from i
 along : {A : Type 0} → (ℕ → A → ℕ) → ℕ → List A → List ℕ
@@ -33,21 +35,19 @@ module _ (nbits : ℕ) (side ws : List ℕ) (a b c d : ℕ) where
   by-line t l = lineWidth nbits side ws l a b c d
 
   by-rule : ℕ → Line → ℕ
-  by-rule t l = nodeWidth nbits side ws (nodeFrom t a b c d)
+  by-rule t l = cond (fieldsGood (fieldCount t) b c d) (nodeWidth nbits side ws (nodeFrom t a b c d)) 0
 
   -- the whole table: what its lines give is what the rules give
   whole : along by-line 0 table ≡ along by-rule 0 table
   unfolding along by-line by-rule
   whole = refl
 
-  -- a line is its tag's rule
-  pub line-rule : (t : ℕ) → t < 39 → lineWidth nbits side ws (lineAt t) a b c d ≡ nodeWidth nbits side ws (nodeFrom t a b c d)
+  -- a line is its tag's rule, of rows whose unused fields are 0
+  pub line-rule : (t : ℕ) → t < 39
+      → lineWidth nbits side ws (lineAt t) a b c d ≡ cond (fieldsGood (fieldCount t) b c d) (nodeWidth nbits side ws (nodeFrom t a b c d)) 0
   unfolding by-line by-rule
   line-rule t h = along-same by-line by-rule (lineAt 39) table whole t h
 
--- no rule lets a width pass where there is none
-pub stop0 : (rule nbits f1 f2 : ℕ) → join0 rule nbits f1 f2 0 ≡ 0
-stop0 rule nbits f1 f2 = simp either-zero
-
+-- a row whose side list is bad has no width
 pub stop-index : (rule array a : ℕ) → joinIndex rule array a 0 ≡ 0
 stop-index rule array a = simp either-zero

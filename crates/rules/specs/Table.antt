@@ -3,10 +3,11 @@
 -- proofs/Table says that each line is 01's rule for its tag.
 -- Inner: contracts within the code cite it; no answer's definition does. Assumes nothing.
 use Prim.Native.Nat.{ℕ, _+_, _-_}
-use mathlib.Core.Bool.{Bool, true, false, cond}
+use mathlib.Core.Bool.{cond}
 use mathlib.Core.List.{List, [], _∷_}
 use lib.Dec.{eqb, ltb, leb}
 use lib.ListN.{length, getD}
+use Rattle.encoding.specs.Encoding.{fieldsGood}
 use Rattle.rules.specs.declared.lines.Line.{Line}
 use Rattle.rules.specs.Rule.{capped, indexWidth, cellWidth, same, chainGood, argsGood, earlier}
 
@@ -170,49 +171,63 @@ join3 rule a b c w = cond (eqb rule jChoice) (same a 1 (same b c w)) 0
 abbrev pub from3 : ℕ → ℕ → ℕ
 from3 source b = cond (eqb source sSecond) b 0
 
--- what is in the side list: k arguments from s on, or nothing; k pairs
-abbrev pub argumentsGood : ℕ → List ℕ → List ℕ → ℕ → ℕ → Bool
-argumentsGood list side ws s k = cond (eqb list lArguments) (argsGood ws side s k) true
+-- Rows after rows of widths ws, by their operands. The fields that they use are known with these; the others are 0 (16), or there is no
+-- width. No operand
+abbrev pub row0 : ℕ → ℕ → ℕ → ℕ → ℕ → ℕ → ℕ → ℕ
+row0 rule source nbits f1 f2 f3 f4 =
+    cond (fieldsGood (cond (eqb source sField1) 1 2) f2 f3 f4) (capped (join0 rule nbits f1 f2 (from0 source f1 f2))) 0
 
-abbrev pub pairsGood : ℕ → List ℕ → List ℕ → ℕ → ℕ → ℕ → Bool
-pairsGood list side ws array s k = cond (eqb list lPairs) (chainGood (indexWidth array) (cellWidth array) ws side s k) false
+-- one, in field 1
+abbrev pub row1 : ℕ → ℕ → List ℕ → ℕ → ℕ → ℕ → ℕ → ℕ
+row1 rule source ws x f2 f3 f4 =
+    let a = getD ws x 0 in
+    cond (fieldsGood (cond (eqb source sExtended) 2 1) f2 f3 f4)
+    (cond (earlier (x ∷ []) (length ws)) (capped (join1 rule a (from1 source f2 a))) 0) 0
 
--- rows after rows of widths ws, by their operands
-abbrev pub row0 : ℕ → ℕ → ℕ → ℕ → List ℕ → List ℕ → ℕ → ℕ → ℕ → ℕ → ℕ
-row0 rule list source nbits side ws f1 f2 s k =
-    capped (join0 rule nbits f1 f2 (cond (argumentsGood list side ws s k) (from0 source f1 f2) 0))
+-- one, in field 3
+abbrev pub rowPart : ℕ → ℕ → List ℕ → ℕ → ℕ → ℕ → ℕ → ℕ
+rowPart rule source ws high low x f4 =
+    cond (fieldsGood 3 low x f4)
+    (cond (earlier (x ∷ []) (length ws)) (capped (joinPart rule high low (getD ws x 0) (fromPart source high low))) 0) 0
 
-abbrev pub row1 : ℕ → ℕ → List ℕ → ℕ → ℕ → ℕ
-row1 rule source ws x f2 = let a = getD ws x 0 in cond (earlier (x ∷ []) (length ws)) (capped (join1 rule a (from1 source f2 a))) 0
-
-abbrev pub rowIndex : ℕ → ℕ → ℕ → List ℕ → List ℕ → ℕ → ℕ → ℕ → ℕ → ℕ
-rowIndex rule list source side ws array x s k =
-    let w = cond (pairsGood list side ws array s k) (fromCell source array) 0 in
-    cond (earlier (x ∷ []) (length ws)) (capped (joinIndex rule array (getD ws x 0) w)) 0
-
-abbrev pub rowPart : ℕ → ℕ → List ℕ → ℕ → ℕ → ℕ → ℕ
-rowPart rule source ws high low x =
-    cond (earlier (x ∷ []) (length ws)) (capped (joinPart rule high low (getD ws x 0) (fromPart source high low))) 0
-
-abbrev pub row2 : ℕ → ℕ → List ℕ → ℕ → ℕ → ℕ
-row2 rule source ws x y =
+-- two
+abbrev pub row2 : ℕ → ℕ → List ℕ → ℕ → ℕ → ℕ → ℕ → ℕ
+row2 rule source ws x y f3 f4 =
     let a = getD ws x 0 in
     let b = getD ws y 0 in
-    cond (earlier (x ∷ y ∷ []) (length ws)) (capped (join2 rule a b (from2 source a b))) 0
+    cond (fieldsGood 2 y f3 f4) (cond (earlier (x ∷ y ∷ []) (length ws)) (capped (join2 rule a b (from2 source a b))) 0) 0
 
-abbrev pub row3 : ℕ → ℕ → List ℕ → ℕ → ℕ → ℕ → ℕ
-row3 rule source ws x y z =
+-- three
+abbrev pub row3 : ℕ → ℕ → List ℕ → ℕ → ℕ → ℕ → ℕ → ℕ
+row3 rule source ws x y z f4 =
     let b = getD ws y 0 in
-    cond (earlier (x ∷ y ∷ z ∷ []) (length ws)) (capped (join3 rule (getD ws x 0) b (getD ws z 0) (from3 source b))) 0
+    cond (fieldsGood 3 y z f4)
+    (cond (earlier (x ∷ y ∷ z ∷ []) (length ws)) (capped (join3 rule (getD ws x 0) b (getD ws z 0) (from3 source b))) 0) 0
 
--- the width that a line gives a row of these fields, or 0: by the number of operands, a single one by its field
-abbrev pub oneWidth : List ℕ → List ℕ → Line → ℕ → ℕ → ℕ → ℕ → ℕ
-oneWidth side ws l f1 f2 f3 f4 =
-    cond (eqb (l .1) 1) (row1 (l .2) (l .4) ws f1 f2)
-    (cond (eqb (l .1) 2) (rowIndex (l .2) (l .3) (l .4) side ws f1 f2 f3 f4) (rowPart (l .2) (l .4) ws f1 f2 f3))
+-- an index in field 2, and k pairs from s on in the side list; all four fields are in use
+abbrev pub rowIndex : ℕ → ℕ → List ℕ → List ℕ → ℕ → ℕ → ℕ → ℕ → ℕ
+rowIndex rule source side ws array x s k =
+    let w = cond (chainGood (indexWidth array) (cellWidth array) ws side s k) (fromCell source array) 0 in
+    cond (earlier (x ∷ []) (length ws)) (capped (joinIndex rule array (getD ws x 0) w)) 0
+
+-- no operand, and k arguments from s on
+abbrev pub rowArguments : ℕ → ℕ → List ℕ → List ℕ → ℕ → ℕ → ℕ → ℕ
+rowArguments rule source side ws f2 s k =
+    capped (cond (eqb rule jAny) (cond (argsGood ws side s k) (cond (eqb source sField2) f2 0) 0) 0)
+
+-- the width that a line gives a row of these fields, or 0: without a side list by the number of operands, a single one by its field
+abbrev pub coreWidth : ℕ → List ℕ → Line → ℕ → ℕ → ℕ → ℕ → ℕ
+coreWidth nbits ws l f1 f2 f3 f4 =
+    cond (eqb (l .0) 0) (row0 (l .2) (l .4) nbits f1 f2 f3 f4)
+    (cond (eqb (l .0) 1) (cond (eqb (l .1) 1) (row1 (l .2) (l .4) ws f1 f2 f3 f4) (rowPart (l .2) (l .4) ws f1 f2 f3 f4))
+    (cond (eqb (l .0) 2) (row2 (l .2) (l .4) ws f1 f2 f3 f4) (row3 (l .2) (l .4) ws f1 f2 f3 f4)))
+
+-- with one: pairs go with a single operand in field 2, arguments with none
+abbrev pub listedWidth : List ℕ → List ℕ → Line → ℕ → ℕ → ℕ → ℕ → ℕ
+listedWidth side ws l f1 f2 f3 f4 =
+    cond (eqb (l .3) lPairs) (cond (eqb (l .0) 1) (cond (eqb (l .1) 2) (rowIndex (l .2) (l .4) side ws f1 f2 f3 f4) 0) 0)
+    (cond (eqb (l .0) 0) (rowArguments (l .2) (l .4) side ws f2 f3 f4) 0)
 
 abbrev pub lineWidth : ℕ → List ℕ → List ℕ → Line → ℕ → ℕ → ℕ → ℕ → ℕ
 lineWidth nbits side ws l f1 f2 f3 f4 =
-    cond (eqb (l .0) 0) (row0 (l .2) (l .3) (l .4) nbits side ws f1 f2 f3 f4)
-    (cond (eqb (l .0) 1) (oneWidth side ws l f1 f2 f3 f4)
-    (cond (eqb (l .0) 2) (row2 (l .2) (l .4) ws f1 f2) (row3 (l .2) (l .4) ws f1 f2 f3)))
+    cond (eqb (l .3) lNone) (coreWidth nbits ws l f1 f2 f3 f4) (listedWidth side ws l f1 f2 f3 f4)

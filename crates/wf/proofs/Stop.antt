@@ -4,15 +4,15 @@ use mathlib.Core.Path.{_≡_, refl, _∙_, sym, ap}
 use mathlib.Core.Bool.{Bool, true, false, cond, not}
 use mathlib.Core.List.{List}
 use native.Mathlib.Omega.{arith}
-use borrow.Author.Tests.{eqb-false, not-false}
+use borrow.Author.Tests.{eqb-false, not-false, lt-ltb}
 use lib.Dec.{eqb}
 use lib.ListN.{getD}
 use Rattle.lists.proofs.First.{first-at, first-none, first-before, first-hit}
 use Rattle.rows.specs.declared.Graph.{Graph}
 use Rattle.rows.specs.Row.{rowCount, rowAt}
 use Rattle.rows.specs.Node.{nodeOf}
-use Rattle.encoding.specs.Encoding.{rowGood, rowBad, badRow}
-use Rattle.encoding.proofs.Encoding.{good-tag}
+use Rattle.encoding.specs.Encoding.{tagCount, fieldCount, fieldsGood, rowGood, rowBad, badRow}
+use Rattle.encoding.proofs.Encoding.{tags-in}
 use Rattle.rules.specs.declared.lines.Line.{Line}
 use Rattle.rules.specs.Rule.{nodeWidth}
 use Rattle.rules.specs.Table.{line, table, lineWidth}
@@ -29,15 +29,15 @@ module _ (graph : Graph) (nbits : ℕ) (side g : List ℕ) where
   passed : (i : ℕ) → rowStops graph nbits side g i ≡ false → (rowBad graph g i ≡ false) × (rowIll graph nbits side g i ≡ false)
   passed i e = both-pass (rowGood graph (rowAt graph g i)) (rowWidth graph nbits side g i (widthsTo graph nbits side g i)) e
 
-  -- a good row has the width that its tag's line gives it
-  pub line-good : (i : ℕ) (ws : List ℕ) (lines : List Line) (r : List ℕ) → lines ≡ table → r ≡ rowAt graph g i → rowGood graph r ≡ true
+  -- a row whose tag there is: its line gives the width of a good row, and none to a bad one
+  pub line-good : (i : ℕ) (ws : List ℕ) (lines : List Line) (r : List ℕ) → lines ≡ table → r ≡ rowAt graph g i → getD r 0 0 < tagCount graph
       → lineWidth nbits side ws (getD lines (getD r 0 0) (line 0 0 0 0 0)) (getD r 1 0) (getD r 2 0) (getD r 3 0) (getD r 4 0)
       ≡ goodWidth graph nbits side g i ws
-  line-good i ws lines r whole e good =
+  line-good i ws lines r whole e h =
       ap (λ (ls : List Line). lineWidth nbits side ws (getD ls (getD r 0 0) (line 0 0 0 0 0)) (getD r 1 0) (getD r 2 0) (getD r 3 0) (getD r 4 0)) whole
-      ∙ line-rule nbits side ws (getD r 1 0) (getD r 2 0) (getD r 3 0) (getD r 4 0) (getD r 0 0) (good-tag graph r good)
-      ∙ ap (λ (x : List ℕ). nodeWidth nbits side ws (nodeOf x)) e
-      ∙ rw (sym (ap (rowGood graph) e) ∙ good)
+      ∙ line-rule nbits side ws (getD r 1 0) (getD r 2 0) (getD r 3 0) (getD r 4 0) (getD r 0 0) (omega (arith, h, tags-in graph))
+      ∙ sym (rw (lt-ltb (getD r 0 0) (tagCount graph) h))
+      ∙ ap (λ (x : List ℕ). cond (rowGood graph x) (nodeWidth nbits side ws (nodeOf x)) 0) e
 
   -- a row that is passed over has the rule's width
   pub good-width : (i : ℕ) → rowStops graph nbits side g i ≡ false

@@ -28,7 +28,7 @@ fn rows_wf(
     let mut i = 0;
     while i < n {
         let r = rows::row(graph, g, i);
-        if !encoding::row_good(graph, r) {
+        if encoding::tag_count(graph) <= r[0] {
             return i;
         }
         let t = r[0] as usize;

@@ -1,11 +1,21 @@
--- The operand is earlier, then the rule on its width. Assumes nothing.
-use borrow.Author.Tests.{lt-ltb, le-ltb}
+-- The unused fields are 0, the operand is earlier, then the rule on its width. Assumes nothing.
+use mathlib.Core.Path.{_∙_, sym}
+use borrow.Author.Tests.{lt-ltb, le-ltb, not-true, not-false}
 use borrow.Author.Needs.{needs}
 use Rattle.operands.proofs.one_row.Statement.{statement}
 use Rattle.operands.proofs.one_row.Tie as tie
 
+fields1-requires : tie.Need-fields1-requires
+fields1-requires c κs = search needs
+
+fields-good-requires : tie.Need-fields-good-requires
+fields-good-requires c κs = search needs
+
 returns : tie.Need-returns
-returns c = rw (le-ltb _ _ (c .if1 .taken))
+returns c = rw (rw (c .before .before .fields1 .ensures) at (sym (c .before .fields-good .ensures) ∙ not-true _ (c .if1 .taken)))
+
+returns-2 : tie.Need-returns-2
+returns-2 c = rw (rw (c .before .before .before .fields1 .ensures) at (sym (c .before .before .fields-good .ensures) ∙ not-false _ (c .before .if1 .left)), le-ltb _ _ (c .if2 .taken))
 
 mul-width1 : tie.Need-mul-width1
 mul-width1 c = search needs
@@ -16,9 +26,18 @@ shared-slice-read-width1 c = search needs
 width1-requires : tie.Need-width1-requires
 width1-requires c κs = search needs
 
-returns-2 : tie.Need-returns-2
-returns-2 c = rw (lt-ltb _ _ (c .before .before .if1 .left)) (c .width1 .ensures)
+returns-3 : tie.Need-returns-3
+returns-3 c = rw (rw (c .before .before .before .before .before .fields1 .ensures) at (sym (c .before .before .before .before .fields-good .ensures) ∙ not-false _ (c .before .before .before .if1 .left)), lt-ltb _ _ (c .before .before .if2 .left)) (c .width1 .ensures)
 
 pub one-row-spec : {M : Type 1} → statement M
 one-row-spec =
-    tie.close (tie.spec returns mul-width1 shared-slice-read-width1 width1-requires returns-2)
+    tie.close
+    (tie.spec
+    fields1-requires
+    fields-good-requires
+    returns
+    returns-2
+    mul-width1
+    shared-slice-read-width1
+    width1-requires
+    returns-3)

@@ -1,11 +1,18 @@
--- The operand is earlier, then the rule on its width. Assumes nothing.
-use borrow.Author.Tests.{lt-ltb, le-ltb}
+-- The unused field is 0, the operand is earlier, then the rule on its width. Assumes nothing.
+use mathlib.Core.Path.{_∙_, sym}
+use borrow.Author.Tests.{lt-ltb, le-ltb, not-true, not-false}
 use borrow.Author.Needs.{needs}
 use Rattle.operands.proofs.part_row.Statement.{statement}
 use Rattle.operands.proofs.part_row.Tie as tie
 
+fields-good-requires : tie.Need-fields-good-requires
+fields-good-requires c κs = search needs
+
 returns : tie.Need-returns
-returns c = rw (le-ltb _ _ (c .if1 .taken))
+returns c = rw (sym (c .before .fields-good .ensures) ∙ not-true _ (c .if1 .taken))
+
+returns-2 : tie.Need-returns-2
+returns-2 c = rw (sym (c .before .before .fields-good .ensures) ∙ not-false _ (c .before .if1 .left), le-ltb _ _ (c .if2 .taken))
 
 mul-width-part : tie.Need-mul-width-part
 mul-width-part c = search needs
@@ -16,10 +23,17 @@ shared-slice-read-width-part c = search needs
 width-part-requires : tie.Need-width-part-requires
 width-part-requires c κs = search needs
 
-returns-2 : tie.Need-returns-2
-returns-2 c = rw (lt-ltb _ _ (c .before .before .if1 .left)) (c .width-part .ensures)
+returns-3 : tie.Need-returns-3
+returns-3 c = rw (sym (c .before .before .before .before .fields-good .ensures) ∙ not-false _ (c .before .before .before .if1 .left), lt-ltb _ _ (c .before .before .if2 .left)) (c .width-part .ensures)
 
 pub part-row-spec : {M : Type 1} → statement M
 part-row-spec =
     tie.close
-    (tie.spec returns mul-width-part shared-slice-read-width-part width-part-requires returns-2)
+    (tie.spec
+    fields-good-requires
+    returns
+    returns-2
+    mul-width-part
+    shared-slice-read-width-part
+    width-part-requires
+    returns-3)

@@ -1,17 +1,24 @@
--- All three operands are earlier, then the rule on their widths. Assumes nothing.
-use borrow.Author.Tests.{lt-ltb, le-ltb}
+-- The unused field is 0, all operands are earlier, then the rule on their widths. Assumes nothing.
+use mathlib.Core.Path.{_∙_, sym}
+use borrow.Author.Tests.{lt-ltb, le-ltb, not-true, not-false}
 use borrow.Author.Needs.{needs}
 use Rattle.operands.proofs.three_rows.Statement.{statement}
 use Rattle.operands.proofs.three_rows.Tie as tie
 
+fields-good-requires : tie.Need-fields-good-requires
+fields-good-requires c κs = search needs
+
 returns : tie.Need-returns
-returns c = rw (le-ltb _ _ (c .if1 .taken))
+returns c = rw (sym (c .before .fields-good .ensures) ∙ not-true _ (c .if1 .taken))
 
 returns-2 : tie.Need-returns-2
-returns-2 c = rw (lt-ltb _ _ (c .before .if1 .left), le-ltb _ _ (c .if2 .taken))
+returns-2 c = rw (sym (c .before .before .fields-good .ensures) ∙ not-false _ (c .before .if1 .left), le-ltb _ _ (c .if2 .taken))
 
 returns-3 : tie.Need-returns-3
-returns-3 c = rw (lt-ltb _ _ (c .before .before .if1 .left), lt-ltb _ _ (c .before .if2 .left), le-ltb _ _ (c .if3 .taken))
+returns-3 c = rw (sym (c .before .before .before .fields-good .ensures) ∙ not-false _ (c .before .before .if1 .left), lt-ltb _ _ (c .before .if2 .left), le-ltb _ _ (c .if3 .taken))
+
+returns-4 : tie.Need-returns-4
+returns-4 c = rw (sym (c .before .before .before .before .fields-good .ensures) ∙ not-false _ (c .before .before .before .if1 .left), lt-ltb _ _ (c .before .before .if2 .left), lt-ltb _ _ (c .before .if3 .left), le-ltb _ _ (c .if4 .taken))
 
 mul-width3 : tie.Need-mul-width3
 mul-width3 c = search needs
@@ -34,16 +41,18 @@ shared-slice-read-width3-3 c = search needs
 width3-requires : tie.Need-width3-requires
 width3-requires c κs = search needs
 
-returns-4 : tie.Need-returns-4
-returns-4 c = rw (lt-ltb _ _ (c .before .before .before .before .before .before .if1 .left), lt-ltb _ _ (c .before .before .before .before .before .if2 .left), lt-ltb _ _ (c .before .before .before .before .if3 .left)) (c .width3 .ensures)
+returns-5 : tie.Need-returns-5
+returns-5 c = rw (sym (c .before .before .before .before .before .before .before .before .fields-good .ensures) ∙ not-false _ (c .before .before .before .before .before .before .before .if1 .left), lt-ltb _ _ (c .before .before .before .before .before .before .if2 .left), lt-ltb _ _ (c .before .before .before .before .before .if3 .left), lt-ltb _ _ (c .before .before .before .before .if4 .left)) (c .width3 .ensures)
 
 pub three-rows-spec : {M : Type 1} → statement M
 three-rows-spec =
     tie.close
     (tie.spec
+    fields-good-requires
     returns
     returns-2
     returns-3
+    returns-4
     mul-width3
     shared-slice-read-width3
     mul-width3-2
@@ -51,4 +60,4 @@ three-rows-spec =
     mul-width3-3
     shared-slice-read-width3-3
     width3-requires
-    returns-4)
+    returns-5)

@@ -7,13 +7,14 @@ use native.Mathlib.Nat.{not-suc-le-zero}
 use native.Mathlib.Omega.{arith}
 use borrow.Author.Count.{below-more}
 use borrow.Author.Needs.{needs}
-use borrow.Author.Tests.{eq-eqb, ne-eqb, not-true, not-false}
+use borrow.Author.Tests.{eq-eqb, ne-eqb, le-ltb}
 use lib.ListN.{length, getD, set, take, drop, length-set}
 use lib.Seq.{length-take-le}
 use Rattle.lists.specs.Build.{build}
 use Rattle.lists.proofs.First.{first-at, first-past}
 use Rattle.lists.proofs.Build.{build-start, build-front, build-store}
-use Rattle.encoding.proofs.Encoding.{good-tag}
+use Rattle.encoding.specs.Encoding.{tagCount}
+use Rattle.encoding.proofs.Encoding.{tags-in}
 use Rattle.wf.proofs.Stop.{good-width, line-good}
 use Rattle.wf.specs.Widths.{rowWidth, widthsTo}
 use Rattle.wf.specs.Pass.{goodWidth, rowStops}
@@ -42,8 +43,11 @@ loop-holds c = (omega arith, refl, build-start _ _, λ j h. absurd (not-suc-le-z
 row-requires : tie.Need-row-requires Inv-loop μ-loop
 row-requires c κs = rw (c .before .before .row-count .ensures) at (c .loop-test .taken)
 
-row-good-requires : tie.Need-row-good-requires Inv-loop μ-loop
-row-good-requires c κs = search needs
+tag-count-requires : tie.Need-tag-count-requires Inv-loop μ-loop
+tag-count-requires c κs = search needs
+
+array-read-if1 : tie.Need-array-read-if1 Inv-loop μ-loop
+array-read-if1 c = search needs
 
 same-length : tie.Need-same-length Inv-loop μ-loop
 same-length c = search needs
@@ -52,18 +56,20 @@ returns : tie.Need-returns Inv-loop μ-loop
 returns c =
     let s = c .before .before .before .before .before .before .before .before .before .args in
     let l = c .before .before .before .before .loop in
-    let bad = rw (c .before .before .row .ensures) at (sym (c .before .row-good .ensures) ∙ not-true _ (c .if1 .taken)) in
+    let bad = le-ltb _ _ (rw (c .before .tag-count .ensures, c .before .before .row .ensures) at (c .if1 .taken)) in
     let h = rw (c .before .before .before .before .before .row-count .ensures) at (c .before .before .before .loop-test .taken) in
     (sym (first-at (rowStops (s .graph) (s .nbits) (s .side .now) (s .g .now)) _ _ h (rw bad) (l .inv .3)), l .inv .2)
 
 array-read-t : tie.Need-array-read-t Inv-loop μ-loop
 array-read-t c = search needs
 
--- a good row's tag has a line
+-- the tag is one of the graph's, so it has a line
+below : (c : tie.Else1 Inv-loop μ-loop)
+    → getD (c .before .before .row .result) 0 0 < tagCount (c .before .before .before .before .before .before .before .before .before .args .graph)
+below c = rw (c .before .tag-count .ensures) at (c .if1 .left)
+
 tag-in : (c : tie.Else1 Inv-loop μ-loop) → getD (c .before .before .row .result) 0 0 < 39
-tag-in c =
-    let s = c .before .before .before .before .before .before .before .before .before .args in
-    good-tag (s .graph) (c .before .before .row .result) (sym (c .before .row-good .ensures) ∙ not-false _ (c .if1 .left))
+tag-in c = omega (arith, below c, tags-in (c .before .before .before .before .before .before .before .before .before .args .graph))
 
 mul-line : tie.Need-mul-line Inv-loop μ-loop
 mul-line c = let h = tag-in c in record { fits = omega (arith, h) }
@@ -98,7 +104,7 @@ width-is c =
     let row = c .before .before .before .before .before .row in
     c .line-width .ensures
     ∙ line-good (s .graph) (s .nbits) (s .side .now) (s .g .now) (l .i) (take (l .i) (l .ws)) (s .t1) (row .result) (entry c .pre .0) (row .ensures)
-    (sym (c .before .before .before .before .row-good .ensures) ∙ not-false _ (c .before .before .before .if1 .left))
+    (below (c .before .before .before))
     ∙ ap (goodWidth (s .graph) (s .nbits) (s .side .now) (s .g .now) (l .i)) (ap (take (l .i)) (l .inv .2) ∙ build-front _ (l .i) _)
 
 same-length-2 : tie.Need-same-length-2 Inv-loop μ-loop
@@ -154,7 +160,8 @@ rows-wf-spec =
     row-count-requires
     loop-holds
     row-requires
-    row-good-requires
+    tag-count-requires
+    array-read-if1
     same-length
     returns
     array-read-t
