@@ -11,7 +11,7 @@ use Rattle.lists.proofs.First.{first-at, first-none, first-before, first-hit}
 use Rattle.rows.specs.declared.Graph.{Graph}
 use Rattle.rows.specs.Row.{rowCount, rowAt}
 use Rattle.rows.specs.Node.{nodeOf}
-use Rattle.encoding.specs.Encoding.{tagCount, fieldCount, fieldsGood, rowGood, rowBad, badRow}
+use Rattle.encoding.specs.Encoding.{tagCount, rowGood, rowBad, badRow}
 use Rattle.encoding.proofs.Encoding.{tags-in}
 use Rattle.rules.specs.declared.lines.Line.{Line}
 use Rattle.rules.specs.Rule.{nodeWidth}
