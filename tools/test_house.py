@@ -105,17 +105,17 @@ class Definitions(unittest.TestCase):
 class Table(unittest.TestCase):
     """The table of operand facts (02, 2.2) in code and in definitions: the same lines, numbers and tags."""
     CODE = os.path.join(CRATES, "rules", "src")
-    KINDS = {"j": "join", "l": "side", "s": "source"}
+    KINDS = {"o": "operand", "j": "join", "s": "source"}
 
     def test_line_for_line(self):
-        word = r"(\d), (\d), join::(\w+), side::(\w+), source::(\w+)"
-        code = re.findall(rf"(?m)^    Line\({word}\), // (\d+) (\w+)$", read(os.path.join(self.CODE, "lines.rt")))
-        defined = re.findall(r"(?m)^    (?:∷ )?line (\d) (\d) j(\w+) l(\w+) s(\w+)  -- (\d+) (\w+)$",
+        code = re.findall(r"(?m)^    Line\(operand::(\w+), join::(\w+), source::(\w+)\), // (\d+) (\w+)$",
+                          read(os.path.join(self.CODE, "lines.rt")))
+        defined = re.findall(r"(?m)^    (?:∷ )?line o(\w+) j(\w+) s(\w+)  -- (\d+) (\w+)$",
                              read(os.path.join(CRATES, "rules", "specs", "Table.antt")))
         plain = [tuple(part.replace("_", "").lower() for part in line) for line in code]
         self.assertEqual(plain, [tuple(part.lower() for part in line) for line in defined])
         tags = re.findall(r"(?m)^pub const (\w+): u64 = (\d+);$", read(os.path.join(CRATES, "rows", "src", "tag.rt")))
-        self.assertEqual([(line[5], line[6]) for line in plain],
+        self.assertEqual([line[3:] for line in plain],
                          [(number, name.replace("_", "").lower()) for name, number in tags])
 
     def test_numbers(self):

@@ -5,12 +5,12 @@ ghost use mathlib.Core.Bool.{cond};
 ghost use lib.Dec.{eqb};
 ghost use lib.ListN.{getD};
 ghost use Rattle.rules.specs.Table.{sField1, sExtended};
-ghost use Rattle.rules.specs.Table.{row0, row1, rowPart, row2, row3, rowIndex, rowArguments, coreWidth, listedWidth, lineWidth};
+ghost use Rattle.rules.specs.Table.{row0, row1, rowPart, row2, row3, rowChain, rowArguments, coreWidth, lineWidth};
 use rules::CELL_WIDTH;
 use rules::INDEX_WIDTH;
 use rules::join;
 use rules::lines::Line;
-use rules::side;
+use rules::operand;
 use rules::source;
 
 // How many fields a row uses: without operands, and with one in field 1.
@@ -106,19 +106,13 @@ fn three_rows(rule: u8, from: u8, ws: &[u64], x: u64, y: u64, z: u64, f4: u64) -
     rules::width3(rule, from, ws[i], ws[j], ws[k])
 }
 
-// An index in row x, and k pairs from s on in the side list.
-fn index_row(
-    rule: u8,
-    from: u8,
-    ws: &[u64],
-    side: &[u64],
-    array: u64,
-    x: u64,
-    s: u64,
-    k: u64,
-) -> u64
-    ensures width { λ r. ⌜ r ≡ rowIndex rule from (now (side .entry)) (now (ws .entry)) array x s k ⌝ }
+// An index in row x, in field 2, and k pairs from s on in the side list.
+fn chain_row(at: u8, from: u8, ws: &[u64], side: &[u64], array: u64, x: u64, s: u64, k: u64) -> u64
+    ensures width { λ r. ⌜ r ≡ rowChain at from (now (side .entry)) (now (ws .entry)) array x s k ⌝ }
 {
+    if at != operand::FIELD2 {
+        return 0;
+    }
     if ws.len() as u64 <= x {
         return 0;
     }
@@ -126,14 +120,14 @@ fn index_row(
         return 0;
     }
     let i = x as usize;
-    rules::width_index(rule, from, array, ws[i])
+    rules::width_index(from, array, ws[i])
 }
 
 // No operand, and k arguments from s on in the side list.
-fn arguments_row(rule: u8, from: u8, ws: &[u64], side: &[u64], f2: u64, s: u64, k: u64) -> u64
-    ensures width { λ r. ⌜ r ≡ rowArguments rule from (now (side .entry)) (now (ws .entry)) f2 s k ⌝ }
+fn arguments_row(at: u8, from: u8, ws: &[u64], side: &[u64], f2: u64, s: u64, k: u64) -> u64
+    ensures width { λ r. ⌜ r ≡ rowArguments at from (now (side .entry)) (now (ws .entry)) f2 s k ⌝ }
 {
-    if rule != join::ANY {
+    if at != operand::NONE {
         return 0;
     }
     if !sides::args_wf(ws, side, s, k) {
@@ -142,51 +136,30 @@ fn arguments_row(rule: u8, from: u8, ws: &[u64], side: &[u64], f2: u64, s: u64, 
     if from == source::FIELD2 { f2 } else { 0 }
 }
 
-// Rows without a side list, by the number of operands; a single one by its field.
+// Rows without a side list, by their operands.
 fn core_width(line: Line, nbits: u64, f1: u64, f2: u64, f3: u64, f4: u64, ws: &[u64]) -> u64
     ensures width { λ w. ⌜ w ≡ coreWidth nbits (now (ws .entry)) line f1 f2 f3 f4 ⌝ }
 {
-    let count = line.0;
-    match count {
-        0 => no_row(line.2, line.4, nbits, f1, f2, f3, f4),
-        1 => {
-            if line.1 == 1 {
-                one_row(line.2, line.4, ws, f1, f2, f3, f4)
-            } else {
-                part_row(line.2, line.4, ws, f1, f2, f3, f4)
-            }
-        }
-        2 => two_rows(line.2, line.4, ws, f1, f2, f3, f4),
-        _ => three_rows(line.2, line.4, ws, f1, f2, f3, f4),
+    let at = line.0;
+    match at {
+        operand::NONE => no_row(line.1, line.2, nbits, f1, f2, f3, f4),
+        operand::FIELD1 => one_row(line.1, line.2, ws, f1, f2, f3, f4),
+        operand::FIELD3 => part_row(line.1, line.2, ws, f1, f2, f3, f4),
+        operand::TWO => two_rows(line.1, line.2, ws, f1, f2, f3, f4),
+        operand::THREE => three_rows(line.1, line.2, ws, f1, f2, f3, f4),
+        _ => 0,
     }
-}
-
-// Rows with one: pairs beside an operand in field 2, arguments beside none.
-fn listed_width(line: Line, f1: u64, f2: u64, f3: u64, f4: u64, side: &[u64], ws: &[u64]) -> u64
-    ensures width { λ w. ⌜ w ≡ listedWidth (now (side .entry)) (now (ws .entry)) line f1 f2 f3 f4 ⌝ }
-{
-    if line.3 == side::PAIRS {
-        if line.0 != 1 {
-            return 0;
-        }
-        if line.1 != 2 {
-            return 0;
-        }
-        return index_row(line.2, line.4, ws, side, f1, f2, f3, f4);
-    }
-    if line.0 != 0 {
-        return 0;
-    }
-    arguments_row(line.2, line.4, ws, side, f2, f3, f4)
 }
 
 // The width that a line gives a row after rows of widths ws, or 0 where it is ill-formed or a field that it does not use is not 0.
+// The rules on side lists are looked at first.
 pub fn line_width(line: Line, r: [u64; 5], nbits: u64, side: &[u64], ws: &[u64]) -> u64
     ensures width { λ w. ⌜ w ≡ lineWidth nbits (now (side .entry)) (now (ws .entry)) line (getD r 1 0) (getD r 2 0) (getD r 3 0) (getD r 4 0) ⌝ }
 {
-    if line.3 == side::NONE {
-        core_width(line, nbits, r[1], r[2], r[3], r[4], ws)
-    } else {
-        listed_width(line, r[1], r[2], r[3], r[4], side, ws)
+    let rule = line.1;
+    match rule {
+        join::CHAIN => chain_row(line.0, line.2, ws, side, r[1], r[2], r[3], r[4]),
+        join::ARGUMENTS => arguments_row(line.0, line.2, ws, side, r[2], r[3], r[4]),
+        _ => core_width(line, nbits, r[1], r[2], r[3], r[4], ws),
     }
 }

@@ -10,8 +10,7 @@ use Rattle.rows.specs.Node.{nodeFrom}
 use Rattle.encoding.specs.Encoding.{fieldCount, fieldsGood}
 use Rattle.rules.specs.declared.lines.Line.{Line}
 use Rattle.rules.specs.Rule.{nodeWidth}
-use Rattle.rules.proofs.Rule.{either-zero}
-use Rattle.rules.specs.Table.{table, lineAt, joinIndex, lineWidth}
+use Rattle.rules.specs.Table.{table, lineAt, lineWidth}
 
 -- a number of each entry of a list and its place, counted from i
 along : {A : Type 0} → (ℕ → A → ℕ) → ℕ → List A → List ℕ
@@ -47,7 +46,3 @@ module _ (nbits : ℕ) (side ws : List ℕ) (a b c d : ℕ) where
       → lineWidth nbits side ws (lineAt t) a b c d ≡ cond (fieldsGood (fieldCount t) b c d) (nodeWidth nbits side ws (nodeFrom t a b c d)) 0
   unfolding by-line by-rule
   line-rule t h = along-same by-line by-rule (lineAt 39) table whole t h
-
--- a row whose side list is bad has no width
-pub stop-index : (rule array a : ℕ) → joinIndex rule array a 0 ≡ 0
-stop-index rule array a = simp either-zero

@@ -11,7 +11,26 @@ use Rattle.encoding.specs.Encoding.{fieldsGood}
 use Rattle.rules.specs.declared.lines.Line.{Line}
 use Rattle.rules.specs.Rule.{capped, indexWidth, cellWidth, same, chainGood, argsGood, earlier}
 
--- how the widths of a row's operands join
+-- how many operands, side lists aside, and where they stand: none; one, in field 1, 2 or 3; two, in fields 1 and 2; three
+abbrev pub oNone : ℕ
+oNone = 0
+
+abbrev pub oField1 : ℕ
+oField1 = 1
+
+abbrev pub oField2 : ℕ
+oField2 = 2
+
+abbrev pub oField3 : ℕ
+oField3 = 3
+
+abbrev pub oTwo : ℕ
+oTwo = 4
+
+abbrev pub oThree : ℕ
+oThree = 5
+
+-- how the widths of a row's operands join; the last two have a side list
 abbrev pub jAny : ℕ
 jAny = 0
 
@@ -30,18 +49,11 @@ jPart = 4
 abbrev pub jChoice : ℕ
 jChoice = 5
 
-abbrev pub jIndex : ℕ
-jIndex = 6
+abbrev pub jChain : ℕ
+jChain = 6
 
--- what is in a side list
-abbrev pub lNone : ℕ
-lNone = 0
-
-abbrev pub lPairs : ℕ
-lPairs = 1
-
-abbrev pub lArguments : ℕ
-lArguments = 2
+abbrev pub jArguments : ℕ
+jArguments = 7
 
 -- where the width comes from
 abbrev pub sField1 : ℕ
@@ -71,57 +83,57 @@ sOne = 7
 abbrev pub sCell : ℕ
 sCell = 8
 
--- operands, the field of a single one, rule, side list, source
-abbrev pub line : ℕ → ℕ → ℕ → ℕ → ℕ → Line
-line count place rule list source = record { 0 = count; 1 = place; 2 = rule; 3 = list; 4 = source }
+-- operands, rule, source
+abbrev pub line : ℕ → ℕ → ℕ → Line
+line operands rule source = record { 0 = operands; 1 = rule; 2 = source }
 
 -- one line a tag, 0 to 38
 abbrev pub table : List Line
 table =
-    line 0 0 jAny lNone sField1  -- 0 Var
-    ∷ line 0 0 jInBits lNone sField2  -- 1 Const
-    ∷ line 2 1 jEqual lNone sFirst  -- 2 Add
-    ∷ line 2 1 jEqual lNone sFirst  -- 3 Sub
-    ∷ line 2 1 jEqual lNone sFirst  -- 4 Mul
-    ∷ line 2 1 jEqual lNone sFirst  -- 5 Udiv
-    ∷ line 2 1 jEqual lNone sFirst  -- 6 Urem
-    ∷ line 2 1 jEqual lNone sFirst  -- 7 And
-    ∷ line 2 1 jEqual lNone sFirst  -- 8 Or
-    ∷ line 2 1 jEqual lNone sFirst  -- 9 Xor
-    ∷ line 2 1 jEqual lNone sFirst  -- 10 Shl
-    ∷ line 2 1 jEqual lNone sFirst  -- 11 Lshr
-    ∷ line 2 1 jEqual lNone sFirst  -- 12 Ashr
-    ∷ line 2 1 jEqual lNone sFirst  -- 13 Rotr
-    ∷ line 1 3 jPart lNone sPart  -- 14 Extract
-    ∷ line 2 1 jAny lNone sSum  -- 15 Concat
-    ∷ line 1 1 jAny lNone sExtended  -- 16 ZeroExt
-    ∷ line 1 1 jAny lNone sExtended  -- 17 SignExt
-    ∷ line 3 1 jChoice lNone sSecond  -- 18 Ite
-    ∷ line 2 1 jEqual lNone sOne  -- 19 Eq
-    ∷ line 2 1 jEqual lNone sOne  -- 20 Ne
-    ∷ line 2 1 jEqual lNone sOne  -- 21 Ult
-    ∷ line 2 1 jEqual lNone sOne  -- 22 Ule
-    ∷ line 2 1 jEqual lNone sOne  -- 23 Ugt
-    ∷ line 2 1 jEqual lNone sOne  -- 24 Uge
-    ∷ line 2 1 jEqual lNone sOne  -- 25 Slt
-    ∷ line 2 1 jEqual lNone sOne  -- 26 Sle
-    ∷ line 2 1 jEqual lNone sOne  -- 27 Sgt
-    ∷ line 2 1 jEqual lNone sOne  -- 28 Sge
-    ∷ line 1 1 jOneBit lNone sOne  -- 29 Not
-    ∷ line 2 1 jOneBit lNone sOne  -- 30 BoolAnd
-    ∷ line 2 1 jOneBit lNone sOne  -- 31 BoolOr
-    ∷ line 1 1 jAny lNone sFirst  -- 32 BvNot
-    ∷ line 1 1 jAny lNone sFirst  -- 33 Neg
-    ∷ line 2 1 jEqual lNone sFirst  -- 34 Rotl
-    ∷ line 2 1 jEqual lNone sFirst  -- 35 Sdiv
-    ∷ line 2 1 jEqual lNone sFirst  -- 36 Srem
-    ∷ line 1 2 jIndex lPairs sCell  -- 37 Select
-    ∷ line 0 0 jAny lArguments sField2  -- 38 Call
+    line oNone jAny sField1  -- 0 Var
+    ∷ line oNone jInBits sField2  -- 1 Const
+    ∷ line oTwo jEqual sFirst  -- 2 Add
+    ∷ line oTwo jEqual sFirst  -- 3 Sub
+    ∷ line oTwo jEqual sFirst  -- 4 Mul
+    ∷ line oTwo jEqual sFirst  -- 5 Udiv
+    ∷ line oTwo jEqual sFirst  -- 6 Urem
+    ∷ line oTwo jEqual sFirst  -- 7 And
+    ∷ line oTwo jEqual sFirst  -- 8 Or
+    ∷ line oTwo jEqual sFirst  -- 9 Xor
+    ∷ line oTwo jEqual sFirst  -- 10 Shl
+    ∷ line oTwo jEqual sFirst  -- 11 Lshr
+    ∷ line oTwo jEqual sFirst  -- 12 Ashr
+    ∷ line oTwo jEqual sFirst  -- 13 Rotr
+    ∷ line oField3 jPart sPart  -- 14 Extract
+    ∷ line oTwo jAny sSum  -- 15 Concat
+    ∷ line oField1 jAny sExtended  -- 16 ZeroExt
+    ∷ line oField1 jAny sExtended  -- 17 SignExt
+    ∷ line oThree jChoice sSecond  -- 18 Ite
+    ∷ line oTwo jEqual sOne  -- 19 Eq
+    ∷ line oTwo jEqual sOne  -- 20 Ne
+    ∷ line oTwo jEqual sOne  -- 21 Ult
+    ∷ line oTwo jEqual sOne  -- 22 Ule
+    ∷ line oTwo jEqual sOne  -- 23 Ugt
+    ∷ line oTwo jEqual sOne  -- 24 Uge
+    ∷ line oTwo jEqual sOne  -- 25 Slt
+    ∷ line oTwo jEqual sOne  -- 26 Sle
+    ∷ line oTwo jEqual sOne  -- 27 Sgt
+    ∷ line oTwo jEqual sOne  -- 28 Sge
+    ∷ line oField1 jOneBit sOne  -- 29 Not
+    ∷ line oTwo jOneBit sOne  -- 30 BoolAnd
+    ∷ line oTwo jOneBit sOne  -- 31 BoolOr
+    ∷ line oField1 jAny sFirst  -- 32 BvNot
+    ∷ line oField1 jAny sFirst  -- 33 Neg
+    ∷ line oTwo jEqual sFirst  -- 34 Rotl
+    ∷ line oTwo jEqual sFirst  -- 35 Sdiv
+    ∷ line oTwo jEqual sFirst  -- 36 Srem
+    ∷ line oField2 jChain sCell  -- 37 Select
+    ∷ line oNone jArguments sField2  -- 38 Call
     ∷ []
 
 -- the line of a tag that there is
 abbrev pub lineAt : ℕ → Line
-lineAt t = getD table t (line 0 0 jAny lNone sField1)
+lineAt t = getD table t (line oNone jAny sField1)
 
 -- What the rules and the sources are, by the operands that a row has: fields f1 and f2, operands of widths a, b, c. A rule lets a width w
 -- pass or gives 0; a rule or a source that asks for other operands gives 0.
@@ -150,8 +162,8 @@ abbrev pub fromPart : ℕ → ℕ → ℕ → ℕ
 fromPart source high low = cond (eqb source sPart) (high - low + 1) 0
 
 -- one, in field 2, the index of an array
-abbrev pub joinIndex : ℕ → ℕ → ℕ → ℕ → ℕ
-joinIndex rule array a w = cond (eqb rule jIndex) (same a (indexWidth array) w) 0
+abbrev pub joinIndex : ℕ → ℕ → ℕ → ℕ
+joinIndex array a w = same a (indexWidth array) w
 
 abbrev pub fromCell : ℕ → ℕ → ℕ
 fromCell source array = cond (eqb source sCell) (cellWidth array) 0
@@ -204,30 +216,28 @@ row3 rule source ws x y z f4 =
     cond (fieldsGood 3 y z f4)
     (cond (earlier (x ∷ y ∷ z ∷ []) (length ws)) (capped (join3 rule (getD ws x 0) b (getD ws z 0) (from3 source b))) 0) 0
 
--- an index in field 2, and k pairs from s on in the side list; all four fields are in use
-abbrev pub rowIndex : ℕ → ℕ → List ℕ → List ℕ → ℕ → ℕ → ℕ → ℕ → ℕ
-rowIndex rule source side ws array x s k =
+-- the rule on a chain: an index in field 2, and k pairs from s on in the side list; all four fields are in use
+abbrev pub rowChain : ℕ → ℕ → List ℕ → List ℕ → ℕ → ℕ → ℕ → ℕ → ℕ
+rowChain operands source side ws array x s k =
     let w = cond (chainGood (indexWidth array) (cellWidth array) ws side s k) (fromCell source array) 0 in
-    cond (earlier (x ∷ []) (length ws)) (capped (joinIndex rule array (getD ws x 0) w)) 0
+    cond (eqb operands oField2) (cond (earlier (x ∷ []) (length ws)) (capped (joinIndex array (getD ws x 0) w)) 0) 0
 
--- no operand, and k arguments from s on
+-- the rule on arguments: no operand, and k arguments from s on
 abbrev pub rowArguments : ℕ → ℕ → List ℕ → List ℕ → ℕ → ℕ → ℕ → ℕ
-rowArguments rule source side ws f2 s k =
-    capped (cond (eqb rule jAny) (cond (argsGood ws side s k) (cond (eqb source sField2) f2 0) 0) 0)
+rowArguments operands source side ws f2 s k =
+    capped (cond (eqb operands oNone) (cond (argsGood ws side s k) (cond (eqb source sField2) f2 0) 0) 0)
 
--- the width that a line gives a row of these fields, or 0: without a side list by the number of operands, a single one by its field
+-- the width that a line gives a row of these fields, or 0: without a side list by its operands
 abbrev pub coreWidth : ℕ → List ℕ → Line → ℕ → ℕ → ℕ → ℕ → ℕ
 coreWidth nbits ws l f1 f2 f3 f4 =
-    cond (eqb (l .0) 0) (row0 (l .2) (l .4) nbits f1 f2 f3 f4)
-    (cond (eqb (l .0) 1) (cond (eqb (l .1) 1) (row1 (l .2) (l .4) ws f1 f2 f3 f4) (rowPart (l .2) (l .4) ws f1 f2 f3 f4))
-    (cond (eqb (l .0) 2) (row2 (l .2) (l .4) ws f1 f2 f3 f4) (row3 (l .2) (l .4) ws f1 f2 f3 f4)))
+    cond (eqb (l .0) oNone) (row0 (l .1) (l .2) nbits f1 f2 f3 f4)
+    (cond (eqb (l .0) oField1) (row1 (l .1) (l .2) ws f1 f2 f3 f4)
+    (cond (eqb (l .0) oField3) (rowPart (l .1) (l .2) ws f1 f2 f3 f4)
+    (cond (eqb (l .0) oTwo) (row2 (l .1) (l .2) ws f1 f2 f3 f4)
+    (cond (eqb (l .0) oThree) (row3 (l .1) (l .2) ws f1 f2 f3 f4) 0))))
 
--- with one: pairs go with a single operand in field 2, arguments with none
-abbrev pub listedWidth : List ℕ → List ℕ → Line → ℕ → ℕ → ℕ → ℕ → ℕ
-listedWidth side ws l f1 f2 f3 f4 =
-    cond (eqb (l .3) lPairs) (cond (eqb (l .0) 1) (cond (eqb (l .1) 2) (rowIndex (l .2) (l .4) side ws f1 f2 f3 f4) 0) 0)
-    (cond (eqb (l .0) 0) (rowArguments (l .2) (l .4) side ws f2 f3 f4) 0)
-
+-- with one by its rule
 abbrev pub lineWidth : ℕ → List ℕ → List ℕ → Line → ℕ → ℕ → ℕ → ℕ → ℕ
 lineWidth nbits side ws l f1 f2 f3 f4 =
-    cond (eqb (l .3) lNone) (coreWidth nbits ws l f1 f2 f3 f4) (listedWidth side ws l f1 f2 f3 f4)
+    cond (eqb (l .1) jChain) (rowChain (l .0) (l .2) side ws f1 f2 f3 f4)
+    (cond (eqb (l .1) jArguments) (rowArguments (l .0) (l .2) side ws f2 f3 f4) (coreWidth nbits ws l f1 f2 f3 f4))

@@ -17,5 +17,8 @@ pub const PART: u8 = 4;
 // The first operand has one bit, the others have one width.
 pub const CHOICE: u8 = 5;
 
-// The operand has the index width of the array in field 1.
-pub const INDEX: u8 = 6;
+// The operand has the index width of the array in field 1; field 4 pairs from field 3 on in the side list have its index and cell widths.
+pub const CHAIN: u8 = 6;
+
+// Field 4 arguments from field 3 on in the side list are earlier rows.
+pub const ARGUMENTS: u8 = 7;

@@ -9,7 +9,7 @@ ghost use Rattle.rules.specs.Table.{join0, join1, joinPart, joinIndex, j
 
 pub mod join;
 pub mod lines;
-pub mod side;
+pub mod operand;
 pub mod source;
 
 // No width passes it.
@@ -156,13 +156,10 @@ pub fn width_part(rule: u8, from: u8, high: u64, low: u64, a: u64) -> u64
     }
 }
 
-// With one operand in field 2, the index of an array.
-pub fn width_index(rule: u8, from: u8, array: u64, a: u64) -> u64
-    ensures width { λ r. ⌜ r ≡ capped (joinIndex rule array a (fromCell from array)) ⌝ }
+// With one operand in field 2, an array's index. Its rule is join::CHAIN, which the caller has looked at.
+pub fn width_index(from: u8, array: u64, a: u64) -> u64
+    ensures width { λ r. ⌜ r ≡ capped (joinIndex array a (fromCell from array)) ⌝ }
 {
-    if rule != join::INDEX {
-        return 0;
-    }
     if a != INDEX_WIDTH {
         return 0;
     }

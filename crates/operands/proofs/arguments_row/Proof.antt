@@ -1,4 +1,4 @@
--- The rule that asks nothing, good arguments, then the one source; a word is within the ceiling. Assumes nothing.
+-- No operand, good arguments, then the one source; a word is within the ceiling. Assumes nothing.
 use mathlib.Core.Path.{_∙_, sym}
 use native.Mathlib.Omega.{arith}
 use borrow.Author.Tests.{eq-eqb, ne-eqb, not-true, not-false}

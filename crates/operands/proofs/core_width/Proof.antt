@@ -1,5 +1,5 @@
--- An arm a count, a single operand by its field: the definition there. Assumes nothing.
-use borrow.Author.Tests.{eq-eqb, ne-eqb}
+-- An arm for each place of operands: the definition there. Assumes nothing.
+use borrow.Author.Tests.{ne-eqb}
 use borrow.Author.Needs.{needs}
 use Rattle.operands.proofs.core_width.Statement.{statement}
 use Rattle.operands.proofs.core_width.Tie as tie
@@ -23,16 +23,22 @@ returns : tie.Need-returns
 returns c = rw (c .before .match .keys1) (c .no-row .ensures)
 
 returns-2 : tie.Need-returns-2
-returns-2 c = rw (c .before .before .before .match .keys2, eq-eqb _ _ (c .before .if1 .taken)) (c .one-row .ensures)
+returns-2 c = rw (c .before .match .keys2) (c .one-row .ensures)
 
 returns-3 : tie.Need-returns-3
-returns-3 c = rw (c .before .before .before .match .keys2, ne-eqb _ _ (c .before .if1 .left)) (c .part-row .ensures)
+returns-3 c = rw (c .before .match .keys3) (c .part-row .ensures)
 
 returns-4 : tie.Need-returns-4
-returns-4 c = rw (c .before .match .keys3) (c .two-rows .ensures)
+returns-4 c = rw (c .before .match .keys4) (c .two-rows .ensures)
 
 returns-5 : tie.Need-returns-5
-returns-5 c = rw (ne-eqb _ _ (c .before .match .rest .0 .0 .1), ne-eqb _ _ (c .before .match .rest .0 .1), ne-eqb _ _ (c .before .match .rest .1)) (c .three-rows .ensures)
+returns-5 c = rw (c .before .match .keys5) (c .three-rows .ensures)
+
+returns-6 : tie.Need-returns-6
+returns-6 c =
+    let rest = c .match .rest in
+    rw
+    (ne-eqb _ _ (rest .0 .0 .0 .0 .1), ne-eqb _ _ (rest .0 .0 .0 .1), ne-eqb _ _ (rest .0 .0 .1), ne-eqb _ _ (rest .0 .1), ne-eqb _ _ (rest .1))
 
 pub core-width-spec : {M : Type 1} → statement M
 core-width-spec =
@@ -47,4 +53,5 @@ core-width-spec =
     returns-2
     returns-3
     returns-4
-    returns-5)
+    returns-5
+    returns-6)

@@ -1,4 +1,4 @@
--- The one rule of an index, its width, then the one source. Assumes nothing.
+-- The index width, then the one source. Assumes nothing.
 use borrow.Author.Tests.{eq-eqb, ne-eqb}
 use Rattle.rules.proofs.width_index.Statement.{statement}
 use Rattle.rules.proofs.width_index.Tie as tie
@@ -7,13 +7,10 @@ returns : tie.Need-returns
 returns c = rw (ne-eqb _ _ (c .if1 .taken))
 
 returns-2 : tie.Need-returns-2
-returns-2 c = rw (eq-eqb _ _ (c .before .if1 .left), ne-eqb _ _ (c .if2 .taken))
+returns-2 c = rw (eq-eqb _ _ (c .before .if1 .left), eq-eqb _ _ (c .if2 .taken))
 
 returns-3 : tie.Need-returns-3
-returns-3 c = rw (eq-eqb _ _ (c .before .before .if1 .left), eq-eqb _ _ (c .before .if2 .left), eq-eqb _ _ (c .if3 .taken))
-
-returns-4 : tie.Need-returns-4
-returns-4 c = rw (eq-eqb _ _ (c .before .before .if1 .left), eq-eqb _ _ (c .before .if2 .left), ne-eqb _ _ (c .if3 .left))
+returns-3 c = rw (eq-eqb _ _ (c .before .if1 .left), ne-eqb _ _ (c .if2 .left))
 
 pub width-index-spec : {M : Type 1} → statement M
-width-index-spec = tie.close (tie.spec returns returns-2 returns-3 returns-4)
+width-index-spec = tie.close (tie.spec returns returns-2 returns-3)
