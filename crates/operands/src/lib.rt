@@ -1,11 +1,9 @@
 // A row by its line of the table: each operand is an earlier row, their widths join by the line's rule, and its side list is good.
 // The fields that it does not use are 0, which is looked at here because its operands tell which they are.
 ghost use mathlib.Core.Path.{_≡_};
-ghost use mathlib.Core.Bool.{cond};
-ghost use lib.Dec.{eqb};
 ghost use lib.ListN.{getD};
-ghost use Rattle.rules.specs.Table.{sField1, sExtended};
-ghost use Rattle.rules.specs.Table.{row0, row1, rowPart, row2, row3, rowChain, rowArguments, coreWidth, lineWidth};
+ghost use Rattle.rules.specs.Table.{rowAny, rowInBits, rowArguments, row0, rowOne, rowExtended, row1, rowPart, row2, row3, rowChain};
+ghost use Rattle.rules.specs.Table.{listedWidth, coreWidth, lineWidth};
 use rules::CELL_WIDTH;
 use rules::INDEX_WIDTH;
 use rules::join;
@@ -13,41 +11,96 @@ use rules::lines::Line;
 use rules::operand;
 use rules::source;
 
-// How many fields a row uses: without operands, and with one in field 1.
-fn fields0(from: u8) -> u64
-    ensures count { λ r. ⌜ r ≡ cond (eqb from sField1) 1 2 ⌝ }
+// No operand: field 1 alone is in use, and nothing is asked.
+fn any_row(from: u8, f1: u64, f2: u64, f3: u64, f4: u64) -> u64
+    ensures width { λ r. ⌜ r ≡ rowAny from f1 f2 f3 f4 ⌝ }
 {
-    if from == source::FIELD1 { 1 } else { 2 }
-}
-
-fn fields1(from: u8) -> u64
-    ensures count { λ r. ⌜ r ≡ cond (eqb from sExtended) 2 1 ⌝ }
-{
-    if from == source::EXTENDED { 2 } else { 1 }
-}
-
-// No operand.
-fn no_row(rule: u8, from: u8, nbits: u64, f1: u64, f2: u64, f3: u64, f4: u64) -> u64
-    ensures width { λ r. ⌜ r ≡ row0 rule from nbits f1 f2 f3 f4 ⌝ }
-{
-    if !encoding::fields_good(fields0(from), f2, f3, f4) {
+    if !encoding::fields_good(1, f2, f3, f4) {
         return 0;
     }
-    rules::width0(rule, from, nbits, f1, f2)
+    if from == source::FIELD1 { f1 } else { 0 }
 }
 
-// One operand, in row x.
-fn one_row(rule: u8, from: u8, ws: &[u64], x: u64, f2: u64, f3: u64, f4: u64) -> u64
-    ensures width { λ r. ⌜ r ≡ row1 rule from (now (ws .entry)) x f2 f3 f4 ⌝ }
+// Field 2 bits from field 1 on, in the bit list.
+fn bits_row(from: u8, nbits: u64, f1: u64, f2: u64, f3: u64, f4: u64) -> u64
+    ensures width { λ r. ⌜ r ≡ rowInBits from nbits f1 f2 f3 f4 ⌝ }
 {
-    if !encoding::fields_good(fields1(from), f2, f3, f4) {
+    if !encoding::fields_good(2, f2, f3, f4) {
+        return 0;
+    }
+    if !rules::bits_in(nbits, f1, f2) {
+        return 0;
+    }
+    if from == source::FIELD2 { f2 } else { 0 }
+}
+
+// k arguments from s on in the side list; all fields are in use.
+fn arguments_row(from: u8, ws: &[u64], side: &[u64], f2: u64, s: u64, k: u64) -> u64
+    ensures width { λ r. ⌜ r ≡ rowArguments from (now (side .entry)) (now (ws .entry)) f2 s k ⌝ }
+{
+    if !sides::args_wf(ws, side, s, k) {
+        return 0;
+    }
+    if from == source::FIELD2 { f2 } else { 0 }
+}
+
+// No operand, by the rule.
+fn no_row(
+    line: Line,
+    nbits: u64,
+    f1: u64,
+    f2: u64,
+    f3: u64,
+    f4: u64,
+    ws: &[u64],
+    side: &[u64],
+) -> u64
+    ensures width { λ r. ⌜ r ≡ row0 (line .1) (line .2) nbits (now (side .entry)) (now (ws .entry)) f1 f2 f3 f4 ⌝ }
+{
+    let rule = line.1;
+    match rule {
+        join::ANY => any_row(line.2, f1, f2, f3, f4),
+        join::IN_BITS => bits_row(line.2, nbits, f1, f2, f3, f4),
+        join::ARGUMENTS => arguments_row(line.2, ws, side, f2, f3, f4),
+        _ => 0,
+    }
+}
+
+// One operand, in row x: its width or one bit, then its width and field 2; which of them, by the source.
+fn single_row(rule: u8, from: u8, ws: &[u64], x: u64, f2: u64, f3: u64, f4: u64) -> u64
+    ensures width { λ r. ⌜ r ≡ rowOne rule from (now (ws .entry)) x f2 f3 f4 ⌝ }
+{
+    if !encoding::fields_good(1, f2, f3, f4) {
         return 0;
     }
     if ws.len() as u64 <= x {
         return 0;
     }
     let i = x as usize;
-    rules::width1(rule, from, f2, ws[i])
+    rules::width1(rule, from, ws[i])
+}
+
+fn extended_row(rule: u8, ws: &[u64], x: u64, f2: u64, f3: u64, f4: u64) -> u64
+    ensures width { λ r. ⌜ r ≡ rowExtended rule (now (ws .entry)) x f2 f3 f4 ⌝ }
+{
+    if !encoding::fields_good(2, f2, f3, f4) {
+        return 0;
+    }
+    if ws.len() as u64 <= x {
+        return 0;
+    }
+    let i = x as usize;
+    rules::width_extended(rule, f2, ws[i])
+}
+
+fn one_row(rule: u8, from: u8, ws: &[u64], x: u64, f2: u64, f3: u64, f4: u64) -> u64
+    ensures width { λ r. ⌜ r ≡ row1 rule from (now (ws .entry)) x f2 f3 f4 ⌝ }
+{
+    if from == source::EXTENDED {
+        extended_row(rule, ws, x, f2, f3, f4)
+    } else {
+        single_row(rule, from, ws, x, f2, f3, f4)
+    }
 }
 
 // A part of row x.
@@ -106,11 +159,20 @@ fn three_rows(rule: u8, from: u8, ws: &[u64], x: u64, y: u64, z: u64, f4: u64) -
     rules::width3(rule, from, ws[i], ws[j], ws[k])
 }
 
-// An index in row x, in field 2, and k pairs from s on in the side list.
-fn chain_row(at: u8, from: u8, ws: &[u64], side: &[u64], array: u64, x: u64, s: u64, k: u64) -> u64
-    ensures width { λ r. ⌜ r ≡ rowChain at from (now (side .entry)) (now (ws .entry)) array x s k ⌝ }
+// An index in row x, and k pairs from s on in the side list; all fields are in use.
+fn chain_row(
+    rule: u8,
+    from: u8,
+    ws: &[u64],
+    side: &[u64],
+    array: u64,
+    x: u64,
+    s: u64,
+    k: u64,
+) -> u64
+    ensures width { λ r. ⌜ r ≡ rowChain rule from (now (side .entry)) (now (ws .entry)) array x s k ⌝ }
 {
-    if at != operand::FIELD2 {
+    if rule != join::CHAIN {
         return 0;
     }
     if ws.len() as u64 <= x {
@@ -123,43 +185,46 @@ fn chain_row(at: u8, from: u8, ws: &[u64], side: &[u64], array: u64, x: u64, s: 
     rules::width_index(from, array, ws[i])
 }
 
-// No operand, and k arguments from s on in the side list.
-fn arguments_row(at: u8, from: u8, ws: &[u64], side: &[u64], f2: u64, s: u64, k: u64) -> u64
-    ensures width { λ r. ⌜ r ≡ rowArguments at from (now (side .entry)) (now (ws .entry)) f2 s k ⌝ }
+// Rows that can have a side list.
+fn listed_width(
+    line: Line,
+    nbits: u64,
+    f1: u64,
+    f2: u64,
+    f3: u64,
+    f4: u64,
+    side: &[u64],
+    ws: &[u64],
+) -> u64
+    ensures width { λ w. ⌜ w ≡ listedWidth nbits (now (side .entry)) (now (ws .entry)) line f1 f2 f3 f4 ⌝ }
 {
-    if at != operand::NONE {
-        return 0;
+    if line.0 == operand::NONE {
+        no_row(line, nbits, f1, f2, f3, f4, ws, side)
+    } else {
+        chain_row(line.1, line.2, ws, side, f1, f2, f3, f4)
     }
-    if !sides::args_wf(ws, side, s, k) {
-        return 0;
-    }
-    if from == source::FIELD2 { f2 } else { 0 }
 }
 
-// Rows without a side list, by their operands.
-fn core_width(line: Line, nbits: u64, f1: u64, f2: u64, f3: u64, f4: u64, ws: &[u64]) -> u64
-    ensures width { λ w. ⌜ w ≡ coreWidth nbits (now (ws .entry)) line f1 f2 f3 f4 ⌝ }
+// The others; the last arm but one is looked at first.
+fn core_width(line: Line, f1: u64, f2: u64, f3: u64, f4: u64, ws: &[u64]) -> u64
+    ensures width { λ w. ⌜ w ≡ coreWidth (now (ws .entry)) line f1 f2 f3 f4 ⌝ }
 {
     let at = line.0;
     match at {
-        operand::NONE => no_row(line.1, line.2, nbits, f1, f2, f3, f4),
-        operand::FIELD1 => one_row(line.1, line.2, ws, f1, f2, f3, f4),
         operand::FIELD3 => part_row(line.1, line.2, ws, f1, f2, f3, f4),
+        operand::FIELD1 => one_row(line.1, line.2, ws, f1, f2, f3, f4),
         operand::TWO => two_rows(line.1, line.2, ws, f1, f2, f3, f4),
-        operand::THREE => three_rows(line.1, line.2, ws, f1, f2, f3, f4),
-        _ => 0,
+        _ => three_rows(line.1, line.2, ws, f1, f2, f3, f4),
     }
 }
 
 // The width that a line gives a row after rows of widths ws, or 0 where it is ill-formed or a field that it does not use is not 0.
-// The rules on side lists are looked at first.
 pub fn line_width(line: Line, r: [u64; 5], nbits: u64, side: &[u64], ws: &[u64]) -> u64
     ensures width { λ w. ⌜ w ≡ lineWidth nbits (now (side .entry)) (now (ws .entry)) line (getD r 1 0) (getD r 2 0) (getD r 3 0) (getD r 4 0) ⌝ }
 {
-    let rule = line.1;
-    match rule {
-        join::CHAIN => chain_row(line.0, line.2, ws, side, r[1], r[2], r[3], r[4]),
-        join::ARGUMENTS => arguments_row(line.0, line.2, ws, side, r[2], r[3], r[4]),
-        _ => core_width(line, nbits, r[1], r[2], r[3], r[4], ws),
+    if operand::FIELD2 < line.0 {
+        core_width(line, r[1], r[2], r[3], r[4], ws)
+    } else {
+        listed_width(line, nbits, r[1], r[2], r[3], r[4], side, ws)
     }
 }

@@ -11,15 +11,15 @@ use Rattle.encoding.specs.Encoding.{fieldsGood}
 use Rattle.rules.specs.declared.lines.Line.{Line}
 use Rattle.rules.specs.Rule.{capped, indexWidth, cellWidth, same, chainGood, argsGood, earlier}
 
--- how many operands, side lists aside, and where they stand: none; one, in field 1, 2 or 3; two, in fields 1 and 2; three
+-- how many operands, side lists aside, and where they stand: none; one, in field 2, 1 or 3; two, in fields 1 and 2; three
 abbrev pub oNone : ℕ
 oNone = 0
 
-abbrev pub oField1 : ℕ
-oField1 = 1
-
 abbrev pub oField2 : ℕ
-oField2 = 2
+oField2 = 1
+
+abbrev pub oField1 : ℕ
+oField1 = 2
 
 abbrev pub oField3 : ℕ
 oField3 = 3
@@ -30,7 +30,7 @@ oTwo = 4
 abbrev pub oThree : ℕ
 oThree = 5
 
--- how the widths of a row's operands join; the last two have a side list
+-- how the widths of a row's operands join; the last two look at a side list
 abbrev pub jAny : ℕ
 jAny = 0
 
@@ -56,29 +56,29 @@ abbrev pub jArguments : ℕ
 jArguments = 7
 
 -- where the width comes from
-abbrev pub sField1 : ℕ
-sField1 = 0
-
-abbrev pub sField2 : ℕ
-sField2 = 1
+abbrev pub sOne : ℕ
+sOne = 0
 
 abbrev pub sFirst : ℕ
-sFirst = 2
+sFirst = 1
 
 abbrev pub sSecond : ℕ
-sSecond = 3
-
-abbrev pub sPart : ℕ
-sPart = 4
+sSecond = 2
 
 abbrev pub sSum : ℕ
-sSum = 5
+sSum = 3
 
 abbrev pub sExtended : ℕ
-sExtended = 6
+sExtended = 4
 
-abbrev pub sOne : ℕ
-sOne = 7
+abbrev pub sField1 : ℕ
+sField1 = 5
+
+abbrev pub sField2 : ℕ
+sField2 = 6
+
+abbrev pub sPart : ℕ
+sPart = 7
 
 abbrev pub sCell : ℕ
 sCell = 8
@@ -133,23 +133,16 @@ table =
 
 -- the line of a tag that there is
 abbrev pub lineAt : ℕ → Line
-lineAt t = getD table t (line oNone jAny sField1)
+lineAt t = getD table t (line oNone jAny sOne)
 
--- What the rules and the sources are, by the operands that a row has: fields f1 and f2, operands of widths a, b, c. A rule lets a width w
--- pass or gives 0; a rule or a source that asks for other operands gives 0.
--- No operand
-abbrev pub join0 : ℕ → ℕ → ℕ → ℕ → ℕ → ℕ
-join0 rule nbits f1 f2 w = cond (eqb rule jAny) w (cond (eqb rule jInBits) (cond (leb (f1 + f2) nbits) w 0) 0)
-
-abbrev pub from0 : ℕ → ℕ → ℕ → ℕ
-from0 source f1 f2 = cond (eqb source sField1) f1 (cond (eqb source sField2) f2 0)
-
--- one, in field 1
+-- What the rules and the sources are, by the operands that a row has, of widths a, b, c. A rule lets a width w pass or gives 0; a rule
+-- or a source that asks for other operands gives 0.
+-- One, in field 1
 abbrev pub join1 : ℕ → ℕ → ℕ → ℕ
 join1 rule a w = cond (eqb rule jAny) w (cond (eqb rule jOneBit) (same a 1 w) 0)
 
-abbrev pub from1 : ℕ → ℕ → ℕ → ℕ
-from1 source f2 a = cond (eqb source sFirst) a (cond (eqb source sOne) 1 (cond (eqb source sExtended) (a + f2) 0))
+abbrev pub from1 : ℕ → ℕ → ℕ
+from1 source a = cond (eqb source sOne) 1 (cond (eqb source sFirst) a 0)
 
 -- one, in field 3, and a part of it
 abbrev pub inPart : ℕ → ℕ → ℕ → ℕ → ℕ
@@ -174,7 +167,7 @@ join2 rule a b w =
     cond (eqb rule jAny) w (cond (eqb rule jEqual) (same a b w) (cond (eqb rule jOneBit) (same a 1 (same b 1 w)) 0))
 
 abbrev pub from2 : ℕ → ℕ → ℕ → ℕ
-from2 source a b = cond (eqb source sFirst) a (cond (eqb source sOne) 1 (cond (eqb source sSum) (a + b) 0))
+from2 source a b = cond (eqb source sSum) (a + b) (from1 source a)
 
 -- three, in fields 1, 2 and 3
 abbrev pub join3 : ℕ → ℕ → ℕ → ℕ → ℕ → ℕ
@@ -183,18 +176,43 @@ join3 rule a b c w = cond (eqb rule jChoice) (same a 1 (same b c w)) 0
 abbrev pub from3 : ℕ → ℕ → ℕ
 from3 source b = cond (eqb source sSecond) b 0
 
--- Rows after rows of widths ws, by their operands. The fields that they use are known with these; the others are 0 (16), or there is no
--- width. No operand
-abbrev pub row0 : ℕ → ℕ → ℕ → ℕ → ℕ → ℕ → ℕ → ℕ
-row0 rule source nbits f1 f2 f3 f4 =
-    cond (fieldsGood (cond (eqb source sField1) 1 2) f2 f3 f4) (capped (join0 rule nbits f1 f2 (from0 source f1 f2))) 0
+-- Rows after rows of widths ws, by their operands. Which fields they use is known with these; the others are 0 (16), or there is no width.
+-- No operand: by the rule
+abbrev pub rowAny : ℕ → ℕ → ℕ → ℕ → ℕ → ℕ
+rowAny source f1 f2 f3 f4 = cond (fieldsGood 1 f2 f3 f4) (capped (cond (eqb source sField1) f1 0)) 0
 
--- one, in field 1
-abbrev pub row1 : ℕ → ℕ → List ℕ → ℕ → ℕ → ℕ → ℕ → ℕ
-row1 rule source ws x f2 f3 f4 =
+abbrev pub rowInBits : ℕ → ℕ → ℕ → ℕ → ℕ → ℕ → ℕ
+rowInBits source nbits f1 f2 f3 f4 =
+    cond (fieldsGood 2 f2 f3 f4) (capped (cond (leb (f1 + f2) nbits) (cond (eqb source sField2) f2 0) 0)) 0
+
+abbrev pub rowArguments : ℕ → List ℕ → List ℕ → ℕ → ℕ → ℕ → ℕ
+rowArguments source side ws f2 s k = capped (cond (argsGood ws side s k) (cond (eqb source sField2) f2 0) 0)
+
+abbrev pub row0 : ℕ → ℕ → ℕ → List ℕ → List ℕ → ℕ → ℕ → ℕ → ℕ → ℕ
+row0 rule source nbits side ws f1 f2 f3 f4 =
+    cond (eqb rule jAny) (rowAny source f1 f2 f3 f4)
+    (cond (eqb rule jInBits) (rowInBits source nbits f1 f2 f3 f4)
+    (cond (eqb rule jArguments) (rowArguments source side ws f2 f3 f4) 0))
+
+-- one, in field 1; with its extension field 2 is in use
+abbrev pub rowOne : ℕ → ℕ → List ℕ → ℕ → ℕ → ℕ → ℕ → ℕ
+rowOne rule source ws x f2 f3 f4 =
     let a = getD ws x 0 in
-    cond (fieldsGood (cond (eqb source sExtended) 2 1) f2 f3 f4)
-    (cond (earlier (x ∷ []) (length ws)) (capped (join1 rule a (from1 source f2 a))) 0) 0
+    cond (fieldsGood 1 f2 f3 f4) (cond (earlier (x ∷ []) (length ws)) (capped (join1 rule a (from1 source a))) 0) 0
+
+abbrev pub rowExtended : ℕ → List ℕ → ℕ → ℕ → ℕ → ℕ → ℕ
+rowExtended rule ws x f2 f3 f4 =
+    let a = getD ws x 0 in
+    cond (fieldsGood 2 f2 f3 f4) (cond (earlier (x ∷ []) (length ws)) (capped (join1 rule a (a + f2))) 0) 0
+
+abbrev pub row1 : ℕ → ℕ → List ℕ → ℕ → ℕ → ℕ → ℕ → ℕ
+row1 rule source ws x f2 f3 f4 = cond (eqb source sExtended) (rowExtended rule ws x f2 f3 f4) (rowOne rule source ws x f2 f3 f4)
+
+-- one, in field 2, the index of an array, and k pairs from s on in the side list; all fields are in use
+abbrev pub rowChain : ℕ → ℕ → List ℕ → List ℕ → ℕ → ℕ → ℕ → ℕ → ℕ
+rowChain rule source side ws array x s k =
+    let w = cond (chainGood (indexWidth array) (cellWidth array) ws side s k) (fromCell source array) 0 in
+    cond (eqb rule jChain) (cond (earlier (x ∷ []) (length ws)) (capped (joinIndex array (getD ws x 0) w)) 0) 0
 
 -- one, in field 3
 abbrev pub rowPart : ℕ → ℕ → List ℕ → ℕ → ℕ → ℕ → ℕ → ℕ
@@ -216,28 +234,17 @@ row3 rule source ws x y z f4 =
     cond (fieldsGood 3 y z f4)
     (cond (earlier (x ∷ y ∷ z ∷ []) (length ws)) (capped (join3 rule (getD ws x 0) b (getD ws z 0) (from3 source b))) 0) 0
 
--- the rule on a chain: an index in field 2, and k pairs from s on in the side list; all four fields are in use
-abbrev pub rowChain : ℕ → ℕ → List ℕ → List ℕ → ℕ → ℕ → ℕ → ℕ → ℕ
-rowChain operands source side ws array x s k =
-    let w = cond (chainGood (indexWidth array) (cellWidth array) ws side s k) (fromCell source array) 0 in
-    cond (eqb operands oField2) (cond (earlier (x ∷ []) (length ws)) (capped (joinIndex array (getD ws x 0) w)) 0) 0
+-- the width that a line gives a row of these fields, or 0: where a side list can be, and where none can
+abbrev pub listedWidth : ℕ → List ℕ → List ℕ → Line → ℕ → ℕ → ℕ → ℕ → ℕ
+listedWidth nbits side ws l f1 f2 f3 f4 =
+    cond (eqb (l .0) oNone) (row0 (l .1) (l .2) nbits side ws f1 f2 f3 f4) (rowChain (l .1) (l .2) side ws f1 f2 f3 f4)
 
--- the rule on arguments: no operand, and k arguments from s on
-abbrev pub rowArguments : ℕ → ℕ → List ℕ → List ℕ → ℕ → ℕ → ℕ → ℕ
-rowArguments operands source side ws f2 s k =
-    capped (cond (eqb operands oNone) (cond (argsGood ws side s k) (cond (eqb source sField2) f2 0) 0) 0)
-
--- the width that a line gives a row of these fields, or 0: without a side list by its operands
-abbrev pub coreWidth : ℕ → List ℕ → Line → ℕ → ℕ → ℕ → ℕ → ℕ
-coreWidth nbits ws l f1 f2 f3 f4 =
-    cond (eqb (l .0) oNone) (row0 (l .1) (l .2) nbits f1 f2 f3 f4)
+abbrev pub coreWidth : List ℕ → Line → ℕ → ℕ → ℕ → ℕ → ℕ
+coreWidth ws l f1 f2 f3 f4 =
+    cond (eqb (l .0) oField3) (rowPart (l .1) (l .2) ws f1 f2 f3 f4)
     (cond (eqb (l .0) oField1) (row1 (l .1) (l .2) ws f1 f2 f3 f4)
-    (cond (eqb (l .0) oField3) (rowPart (l .1) (l .2) ws f1 f2 f3 f4)
-    (cond (eqb (l .0) oTwo) (row2 (l .1) (l .2) ws f1 f2 f3 f4)
-    (cond (eqb (l .0) oThree) (row3 (l .1) (l .2) ws f1 f2 f3 f4) 0))))
+    (cond (eqb (l .0) oTwo) (row2 (l .1) (l .2) ws f1 f2 f3 f4) (row3 (l .1) (l .2) ws f1 f2 f3 f4)))
 
--- with one by its rule
 abbrev pub lineWidth : ℕ → List ℕ → List ℕ → Line → ℕ → ℕ → ℕ → ℕ → ℕ
 lineWidth nbits side ws l f1 f2 f3 f4 =
-    cond (eqb (l .1) jChain) (rowChain (l .0) (l .2) side ws f1 f2 f3 f4)
-    (cond (eqb (l .1) jArguments) (rowArguments (l .0) (l .2) side ws f2 f3 f4) (coreWidth nbits ws l f1 f2 f3 f4))
+    cond (ltb oField2 (l .0)) (coreWidth ws l f1 f2 f3 f4) (listedWidth nbits side ws l f1 f2 f3 f4)

@@ -4,8 +4,8 @@ ghost use mathlib.Core.Bool.{cond};
 ghost use Prim.Native.Nat.{ℕ, _+_, _-_};
 ghost use lib.Dec.{leb};
 ghost use Rattle.rules.specs.Rule.{capped, same};
-ghost use Rattle.rules.specs.Table.{from0, from1, fromPart, fromCell, from2, from3};
-ghost use Rattle.rules.specs.Table.{join0, join1, joinPart, joinIndex, join2, join3, inPart};
+ghost use Rattle.rules.specs.Table.{from1, fromPart, fromCell, from2, from3};
+ghost use Rattle.rules.specs.Table.{join1, joinPart, joinIndex, join2, join3, inPart};
 
 pub mod join;
 pub mod lines;
@@ -41,7 +41,7 @@ fn part_width(high: u64, low: u64) -> u64
 }
 
 // The bits of a constant lie in the bit list.
-fn bits_in(nbits: u64, s: u64, w: u64) -> bool
+pub fn bits_in(nbits: u64, s: u64, w: u64) -> bool
     ensures test { λ r. ⌜ r ≡ leb (s + w) nbits ⌝ }
 {
     if nbits < s {
@@ -70,38 +70,7 @@ fn choice_in(a: u64, b: u64, c: u64) -> bool
     b == c
 }
 
-// Rows without operands: whether the rule lets a width pass, the source's width, both together.
-fn joins0(rule: u8, nbits: u64, f1: u64, f2: u64) -> bool
-    ensures test { λ r. ⌜ ((w : ℕ) → join0 rule nbits f1 f2 w ≡ cond r w 0) ⌝ }
-{
-    match rule {
-        join::ANY => true,
-        join::IN_BITS => bits_in(nbits, f1, f2),
-        _ => false,
-    }
-}
-
-fn width_from0(from: u8, f1: u64, f2: u64) -> u64
-    ensures width { λ r. ⌜ r ≡ capped (from0 from f1 f2) ⌝ }
-{
-    match from {
-        source::FIELD1 => f1,
-        source::FIELD2 => f2,
-        _ => 0,
-    }
-}
-
-pub fn width0(rule: u8, from: u8, nbits: u64, f1: u64, f2: u64) -> u64
-    ensures width { λ r. ⌜ r ≡ capped (join0 rule nbits f1 f2 (from0 from f1 f2)) ⌝ }
-{
-    if joins0(rule, nbits, f1, f2) {
-        width_from0(from, f1, f2)
-    } else {
-        0
-    }
-}
-
-// The same with one operand in field 1, of width a.
+// One operand in field 1, of width a: whether the rule lets a width pass, the source's width, both together.
 fn joins1(rule: u8, a: u64) -> bool
     ensures test { λ r. ⌜ ((w : ℕ) → join1 rule a w ≡ cond r w 0) ⌝ }
 {
@@ -112,25 +81,31 @@ fn joins1(rule: u8, a: u64) -> bool
     }
 }
 
-fn width_from1(from: u8, f2: u64, a: u64) -> u64
-    ensures width { λ r. ⌜ r ≡ capped (from1 from f2 a) ⌝ }
+// Without a branch between the two: which of them it is, is hard to foresee.
+fn width_from1(from: u8, a: u64) -> u64
+    ensures width { λ r. ⌜ r ≡ capped (from1 from a) ⌝ }
 {
-    match from {
-        source::FIRST => a,
-        source::ONE => 1,
-        source::EXTENDED => sum_width(a, f2),
-        _ => 0,
+    if source::FIRST < from {
+        return 0;
     }
+    if from == source::ONE { 1 } else { a }
 }
 
-pub fn width1(rule: u8, from: u8, f2: u64, a: u64) -> u64
-    ensures width { λ r. ⌜ r ≡ capped (join1 rule a (from1 from f2 a)) ⌝ }
+pub fn width1(rule: u8, from: u8, a: u64) -> u64
+    ensures width { λ r. ⌜ r ≡ capped (join1 rule a (from1 from a)) ⌝ }
 {
     if joins1(rule, a) {
-        width_from1(from, f2, a)
+        width_from1(from, a)
     } else {
         0
     }
+}
+
+// The same with the width and field 2.
+pub fn width_extended(rule: u8, f2: u64, a: u64) -> u64
+    ensures width { λ r. ⌜ r ≡ capped (join1 rule a (a + f2)) ⌝ }
+{
+    if joins1(rule, a) { sum_width(a, f2) } else { 0 }
 }
 
 // With one operand in field 3, of which a part is taken.
@@ -191,12 +166,10 @@ fn joins2(rule: u8, a: u64, b: u64) -> bool
 fn width_from2(from: u8, a: u64, b: u64) -> u64
     ensures width { λ r. ⌜ r ≡ capped (from2 from a b) ⌝ }
 {
-    match from {
-        source::FIRST => a,
-        source::ONE => 1,
-        source::SUM => sum_width(a, b),
-        _ => 0,
+    if from == source::SUM {
+        return sum_width(a, b);
     }
+    width_from1(from, a)
 }
 
 pub fn width2(rule: u8, from: u8, a: u64, b: u64) -> u64

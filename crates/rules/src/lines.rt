@@ -5,7 +5,7 @@ use crate::join;
 use crate::operand;
 use crate::source;
 
-// How many operands, side lists aside, and where they stand; how widths join; where the width comes from.
+// Operands (operand.rt); how widths join (join.rt); where the width comes from (source.rt).
 pub struct Line(pub u8, pub u8, pub u8);
 
 const TABLE: [Line; 39] = [

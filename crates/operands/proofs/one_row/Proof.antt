@@ -1,43 +1,20 @@
--- The unused fields are 0, the operand is earlier, then the rule on its width. Assumes nothing.
-use mathlib.Core.Path.{_∙_, sym}
-use borrow.Author.Tests.{lt-ltb, le-ltb, not-true, not-false}
+-- The source tells which of the two. Assumes nothing.
+use borrow.Author.Tests.{eq-eqb, ne-eqb}
 use borrow.Author.Needs.{needs}
 use Rattle.operands.proofs.one_row.Statement.{statement}
 use Rattle.operands.proofs.one_row.Tie as tie
 
-fields1-requires : tie.Need-fields1-requires
-fields1-requires c κs = search needs
+extended-row-requires : tie.Need-extended-row-requires
+extended-row-requires c κs = search needs
 
-fields-good-requires : tie.Need-fields-good-requires
-fields-good-requires c κs = search needs
+single-row-requires : tie.Need-single-row-requires
+single-row-requires c κs = search needs
 
 returns : tie.Need-returns
-returns c = rw (rw (c .before .before .fields1 .ensures) at (sym (c .before .fields-good .ensures) ∙ not-true _ (c .if1 .taken)))
+returns c = rw (eq-eqb _ _ (c .before .if1 .taken)) (c .extended-row .ensures)
 
 returns-2 : tie.Need-returns-2
-returns-2 c = rw (rw (c .before .before .before .fields1 .ensures) at (sym (c .before .before .fields-good .ensures) ∙ not-false _ (c .before .if1 .left)), le-ltb _ _ (c .if2 .taken))
-
-mul-width1 : tie.Need-mul-width1
-mul-width1 c = search needs
-
-shared-slice-read-width1 : tie.Need-shared-slice-read-width1
-shared-slice-read-width1 c = search needs
-
-width1-requires : tie.Need-width1-requires
-width1-requires c κs = search needs
-
-returns-3 : tie.Need-returns-3
-returns-3 c = rw (rw (c .before .before .before .before .before .fields1 .ensures) at (sym (c .before .before .before .before .fields-good .ensures) ∙ not-false _ (c .before .before .before .if1 .left)), lt-ltb _ _ (c .before .before .if2 .left)) (c .width1 .ensures)
+returns-2 c = rw (ne-eqb _ _ (c .before .if1 .left)) (c .single-row .ensures)
 
 pub one-row-spec : {M : Type 1} → statement M
-one-row-spec =
-    tie.close
-    (tie.spec
-    fields1-requires
-    fields-good-requires
-    returns
-    returns-2
-    mul-width1
-    shared-slice-read-width1
-    width1-requires
-    returns-3)
+one-row-spec = tie.close (tie.spec extended-row-requires single-row-requires returns returns-2)

@@ -1,0 +1,39 @@
+-- The unused fields are 0, the operand is earlier, then the rule on its width. Assumes nothing.
+use mathlib.Core.Path.{_∙_, sym}
+use borrow.Author.Tests.{lt-ltb, le-ltb, not-true, not-false}
+use borrow.Author.Needs.{needs}
+use Rattle.operands.proofs.extended_row.Statement.{statement}
+use Rattle.operands.proofs.extended_row.Tie as tie
+
+fields-good-requires : tie.Need-fields-good-requires
+fields-good-requires c κs = search needs
+
+returns : tie.Need-returns
+returns c = rw (sym (c .before .fields-good .ensures) ∙ not-true _ (c .if1 .taken))
+
+returns-2 : tie.Need-returns-2
+returns-2 c = rw (sym (c .before .before .fields-good .ensures) ∙ not-false _ (c .before .if1 .left), le-ltb _ _ (c .if2 .taken))
+
+mul-width-extended : tie.Need-mul-width-extended
+mul-width-extended c = search needs
+
+shared-slice-read-width-extended : tie.Need-shared-slice-read-width-extended
+shared-slice-read-width-extended c = search needs
+
+width-extended-requires : tie.Need-width-extended-requires
+width-extended-requires c κs = search needs
+
+returns-3 : tie.Need-returns-3
+returns-3 c = rw (sym (c .before .before .before .before .fields-good .ensures) ∙ not-false _ (c .before .before .before .if1 .left), lt-ltb _ _ (c .before .before .if2 .left)) (c .width-extended .ensures)
+
+pub extended-row-spec : {M : Type 1} → statement M
+extended-row-spec =
+    tie.close
+    (tie.spec
+    fields-good-requires
+    returns
+    returns-2
+    mul-width-extended
+    shared-slice-read-width-extended
+    width-extended-requires
+    returns-3)
