@@ -25,10 +25,11 @@ fn rows_wf(
     ensures list { λ r. ⌜ now (ws .exit) ≡ widthsTo graph nbits (now (side .entry)) (now (g .entry)) r ++ drop r (now (ws .entry)) ⌝ }
 {
     let n = rows::row_count(graph, g);
+    let tags = encoding::tag_count(graph);
     let mut i = 0;
     while i < n {
         let r = rows::row(graph, g, i);
-        if encoding::tag_count(graph) <= r[0] {
+        if tags <= r[0] {
             return i;
         }
         let t = r[0] as usize;

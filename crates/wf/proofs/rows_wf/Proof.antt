@@ -27,24 +27,24 @@ stored : (f : ℕ → List ℕ → ℕ) (ws₀ ws : List ℕ) (i w : ℕ) → ws
 stored f ws₀ ws i w e q h = rw (e, q) (build-store f ws₀ 0 i h)
 
 abbrev Inv-loop : tie.InvT-loop
-Inv-loop graph g nbits side ws₀ lines n i₀ ws i =
+Inv-loop graph g nbits side ws₀ lines n tags i₀ ws i =
     (i ≤ n) × (length ws ≡ length ws₀) × (ws ≡ widthsTo graph nbits side g i ++ drop i ws₀) ×
     ((j : ℕ) → j < i → rowStops graph nbits side g j ≡ false)
 
 abbrev μ-loop : tie.MeasureT-loop
-μ-loop graph g nbits side ws₀ lines n i₀ ws i = n - i
+μ-loop graph g nbits side ws₀ lines n tags i₀ ws i = n - i
 
 row-count-requires : tie.Need-row-count-requires Inv-loop μ-loop
 row-count-requires c κs = search needs
+
+tag-count-requires : tie.Need-tag-count-requires Inv-loop μ-loop
+tag-count-requires c κs = search needs
 
 loop-holds : tie.Need-loop-holds Inv-loop μ-loop
 loop-holds c = (omega arith, refl, build-start _ _, λ j h. absurd (not-suc-le-zero h))
 
 row-requires : tie.Need-row-requires Inv-loop μ-loop
-row-requires c κs = rw (c .before .before .row-count .ensures) at (c .loop-test .taken)
-
-tag-count-requires : tie.Need-tag-count-requires Inv-loop μ-loop
-tag-count-requires c κs = search needs
+row-requires c κs = rw (c .before .before .before .row-count .ensures) at (c .loop-test .taken)
 
 array-read-if1 : tie.Need-array-read-if1 Inv-loop μ-loop
 array-read-if1 c = search needs
@@ -55,9 +55,9 @@ same-length c = search needs
 returns : tie.Need-returns Inv-loop μ-loop
 returns c =
     let s = c .before .before .before .before .before .before .before .before .before .args in
-    let l = c .before .before .before .before .loop in
-    let bad = le-ltb _ _ (rw (c .before .tag-count .ensures, c .before .before .row .ensures) at (c .if1 .taken)) in
-    let h = rw (c .before .before .before .before .before .row-count .ensures) at (c .before .before .before .loop-test .taken) in
+    let l = c .before .before .before .loop in
+    let bad = le-ltb _ _ (rw (c .before .before .before .before .tag-count .ensures, c .before .row .ensures) at (c .if1 .taken)) in
+    let h = rw (c .before .before .before .before .before .row-count .ensures) at (c .before .before .loop-test .taken) in
     (sym (first-at (rowStops (s .graph) (s .nbits) (s .side .now) (s .g .now)) _ _ h (rw bad) (l .inv .3)), l .inv .2)
 
 array-read-t : tie.Need-array-read-t Inv-loop μ-loop
@@ -65,10 +65,10 @@ array-read-t c = search needs
 
 -- the tag is one of the graph's, so it has a line
 below : (c : tie.Else1 Inv-loop μ-loop)
-    → getD (c .before .before .row .result) 0 0 < tagCount (c .before .before .before .before .before .before .before .before .before .args .graph)
-below c = rw (c .before .tag-count .ensures) at (c .if1 .left)
+    → getD (c .before .row .result) 0 0 < tagCount (c .before .before .before .before .before .before .before .before .before .args .graph)
+below c = rw (c .before .before .before .before .tag-count .ensures) at (c .if1 .left)
 
-tag-in : (c : tie.Else1 Inv-loop μ-loop) → getD (c .before .before .row .result) 0 0 < 39
+tag-in : (c : tie.Else1 Inv-loop μ-loop) → getD (c .before .row .result) 0 0 < 39
 tag-in c = omega (arith, below c, tags-in (c .before .before .before .before .before .before .before .before .before .args .graph))
 
 mul-line : tie.Need-mul-line Inv-loop μ-loop
@@ -88,10 +88,10 @@ line-width-requires c κs = search needs
 
 -- from a row's width: its turn of the loop, and where the function was entered
 abbrev turn : tie.After-line-width Inv-loop μ-loop → tie.At-loop Inv-loop μ-loop
-turn c = c .before .before .before .before .before .before .before
+turn c = c .before .before .before .before .before .before
 
 abbrev entry : tie.After-line-width Inv-loop μ-loop → tie.Start Inv-loop μ-loop
-entry c = turn c .before .before .before .before .before
+entry c = turn c .before .before .before .before .before .before
 
 -- what the call gives, over the widths before row i
 width-is : (c : tie.After-line-width Inv-loop μ-loop)
@@ -101,7 +101,7 @@ width-is : (c : tie.After-line-width Inv-loop μ-loop)
 width-is c =
     let s = entry c .args in
     let l = turn c .loop in
-    let row = c .before .before .before .before .before .row in
+    let row = c .before .before .before .before .row in
     c .line-width .ensures
     ∙ line-good (s .graph) (s .nbits) (s .side .now) (s .g .now) (l .i) (take (l .i) (l .ws)) (s .t1) (row .result) (entry c .pre .0) (row .ensures)
     (below (c .before .before .before))
@@ -114,7 +114,7 @@ returns-2 : tie.Need-returns-2 Inv-loop μ-loop
 returns-2 c =
     let s = entry (c .before) .args in
     let l = turn (c .before) .loop in
-    let h = rw (turn (c .before) .before .row-count .ensures) at (c .before .before .before .before .before .before .before .loop-test .taken) in
+    let h = rw (turn (c .before) .before .before .row-count .ensures) at (c .before .before .before .before .before .before .loop-test .taken) in
     (sym (first-at (rowStops (s .graph) (s .nbits) (s .side .now) (s .g .now)) _ _ h (eq-eqb _ _ (sym (width-is (c .before)) ∙ c .if2 .taken)) (l .inv .3)), l .inv .2)
 
 mul-ws : tie.Need-mul-ws Inv-loop μ-loop
@@ -146,9 +146,9 @@ same-length-3 c = search needs
 
 returns-3 : tie.Need-returns-3 Inv-loop μ-loop
 returns-3 c =
-    let s = c .before .before .before .before .before .before .args in
+    let s = c .before .before .before .before .before .before .before .args in
     let l = c .before .loop in
-    let e = c .before .before .row-count .ensures in
+    let e = c .before .before .before .row-count .ensures in
     (sym (first-past (rowStops (s .graph) (s .nbits) (s .side .now) (s .g .now)) _ _ (rw e at (l .inv .0)) (rw e at (c .loop-test .left)) (l .inv .3)), l .inv .2)
 
 pub rows-wf-spec : {M : Type 1} → statement M
@@ -158,9 +158,9 @@ rows-wf-spec =
     Inv-loop
     μ-loop
     row-count-requires
+    tag-count-requires
     loop-holds
     row-requires
-    tag-count-requires
     array-read-if1
     same-length
     returns
