@@ -222,9 +222,9 @@ fn core_width(line: Line, f1: u64, f2: u64, f3: u64, f4: u64, ws: &[u64]) -> u64
 pub fn line_width(line: Line, r: [u64; 5], nbits: u64, side: &[u64], ws: &[u64]) -> u64
     ensures width { λ w. ⌜ w ≡ lineWidth nbits (now (side .entry)) (now (ws .entry)) line (getD r 1 0) (getD r 2 0) (getD r 3 0) (getD r 4 0) ⌝ }
 {
-    if operand::FIELD2 < line.0 {
-        core_width(line, r[1], r[2], r[3], r[4], ws)
-    } else {
+    if line.0 < operand::FIELD1 {
         listed_width(line, nbits, r[1], r[2], r[3], r[4], side, ws)
+    } else {
+        core_width(line, r[1], r[2], r[3], r[4], ws)
     }
 }

@@ -247,4 +247,4 @@ coreWidth ws l f1 f2 f3 f4 =
 
 abbrev pub lineWidth : ℕ → List ℕ → List ℕ → Line → ℕ → ℕ → ℕ → ℕ → ℕ
 lineWidth nbits side ws l f1 f2 f3 f4 =
-    cond (ltb oField2 (l .0)) (coreWidth ws l f1 f2 f3 f4) (listedWidth nbits side ws l f1 f2 f3 f4)
+    cond (ltb (l .0) oField1) (listedWidth nbits side ws l f1 f2 f3 f4) (coreWidth ws l f1 f2 f3 f4)
