@@ -15,13 +15,20 @@ field-good-requires-2 : tie.Need-field-good-requires-2
 field-good-requires-2 c κs = search needs
 
 returns-2 : tie.Need-returns-2
-returns-2 c = rw (sym (c .before .before .before .field-good .ensures) ∙ not-false _ (c .before .before .if1 .left), sym (c .before .field-good2 .ensures) ∙ not-true _ (c .if2 .taken))
+returns-2 c =
+    let first = c .before .before in
+    let good = sym (first .before .field-good .ensures) ∙ not-false _ (first .if1 .left) in
+    rw (good, sym (c .before .field-good2 .ensures) ∙ not-true _ (c .if2 .taken))
 
 field-good-requires-3 : tie.Need-field-good-requires-3
 field-good-requires-3 c κs = search needs
 
 returns-3 : tie.Need-returns-3
-returns-3 c = rw (sym (c .before .before .before .before .field-good .ensures) ∙ not-false _ (c .before .before .before .if1 .left), sym (c .before .before .field-good2 .ensures) ∙ not-false _ (c .before .if2 .left)) (c .field-good3 .ensures)
+returns-3 c =
+    let second = c .before in
+    let first = second .before .before in
+    let good = sym (first .before .field-good .ensures) ∙ not-false _ (first .if1 .left) in
+    rw (good, sym (second .before .field-good2 .ensures) ∙ not-false _ (second .if2 .left)) (c .field-good3 .ensures)
 
 pub fields-good-spec : {M : Type 1} → statement M
 fields-good-spec =

@@ -17,15 +17,26 @@ bits-in-requires : tie.Need-bits-in-requires
 bits-in-requires c κs = search needs
 
 returns-2 : tie.Need-returns-2
-returns-2 c = rw (sym (c .before .before .before .fields-good .ensures) ∙ not-false _ (c .before .before .if1 .left), sym (c .before .bits-in .ensures) ∙ not-true _ (c .if2 .taken))
+returns-2 c =
+    let fields = c .before .before in
+    let good = sym (fields .before .fields-good .ensures) ∙ not-false _ (fields .if1 .left) in
+    rw (good, sym (c .before .bits-in .ensures) ∙ not-true _ (c .if2 .taken))
 
 returns-3 : tie.Need-returns-3
 returns-3 c =
-    rw (sym (c .before .before .before .before .fields-good .ensures) ∙ not-false _ (c .before .before .before .if1 .left), sym (c .before .before .bits-in .ensures) ∙ not-false _ (c .before .if2 .left), eq-eqb _ _ (c .if3 .taken)) (sym (capped-word _ (omega arith)))
+    let bits = c .before in
+    let fields = bits .before .before in
+    let good = sym (fields .before .fields-good .ensures) ∙ not-false _ (fields .if1 .left) in
+    let within = sym (bits .before .bits-in .ensures) ∙ not-false _ (bits .if2 .left) in
+    rw (good, within, eq-eqb _ _ (c .if3 .taken)) (sym (capped-word _ (omega arith)))
 
 returns-4 : tie.Need-returns-4
 returns-4 c =
-    rw (sym (c .before .before .before .before .fields-good .ensures) ∙ not-false _ (c .before .before .before .if1 .left), sym (c .before .before .bits-in .ensures) ∙ not-false _ (c .before .if2 .left), ne-eqb _ _ (c .if3 .left))
+    let bits = c .before in
+    let fields = bits .before .before in
+    let good = sym (fields .before .fields-good .ensures) ∙ not-false _ (fields .if1 .left) in
+    let within = sym (bits .before .bits-in .ensures) ∙ not-false _ (bits .if2 .left) in
+    rw (good, within, ne-eqb _ _ (c .if3 .left))
 
 pub bits-row-spec : {M : Type 1} → statement M
 bits-row-spec =

@@ -17,8 +17,9 @@ chain-wf-requires c κs = search needs
 
 returns-3 : tie.Need-returns-3
 returns-3 c =
-    rw
-    (eq-eqb _ _ (c .before .before .before .if1 .left), lt-ltb _ _ (c .before .before .if2 .left), sym (c .before .chain-wf .ensures) ∙ not-true _ (c .if3 .taken), either-zero)
+    let index = c .before .before in
+    let bad = sym (c .before .chain-wf .ensures) ∙ not-true _ (c .if3 .taken) in
+    rw (eq-eqb _ _ (index .before .if1 .left), lt-ltb _ _ (index .if2 .left), bad, either-zero)
 
 mul-width-index : tie.Need-mul-width-index
 mul-width-index c = search needs
@@ -31,7 +32,10 @@ width-index-requires c κs = search needs
 
 returns-4 : tie.Need-returns-4
 returns-4 c =
-    rw (eq-eqb _ _ (c .before .before .before .before .before .if1 .left), lt-ltb _ _ (c .before .before .before .before .if2 .left), sym (c .before .before .before .chain-wf .ensures) ∙ not-false _ (c .before .before .if3 .left)) (c .width-index .ensures)
+    let pairs = c .before .before in
+    let index = pairs .before .before in
+    let good = sym (pairs .before .chain-wf .ensures) ∙ not-false _ (pairs .if3 .left) in
+    rw (eq-eqb _ _ (index .before .if1 .left), lt-ltb _ _ (index .if2 .left), good) (c .width-index .ensures)
 
 pub chain-row-spec : {M : Type 1} → statement M
 chain-row-spec =

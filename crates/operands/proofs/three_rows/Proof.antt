@@ -15,10 +15,19 @@ returns-2 : tie.Need-returns-2
 returns-2 c = rw (sym (c .before .before .fields-good .ensures) ∙ not-false _ (c .before .if1 .left), le-ltb _ _ (c .if2 .taken))
 
 returns-3 : tie.Need-returns-3
-returns-3 c = rw (sym (c .before .before .before .fields-good .ensures) ∙ not-false _ (c .before .before .if1 .left), lt-ltb _ _ (c .before .if2 .left), le-ltb _ _ (c .if3 .taken))
+returns-3 c =
+    let first = c .before in
+    let fields = first .before in
+    let good = sym (fields .before .fields-good .ensures) ∙ not-false _ (fields .if1 .left) in
+    rw (good, lt-ltb _ _ (first .if2 .left), le-ltb _ _ (c .if3 .taken))
 
 returns-4 : tie.Need-returns-4
-returns-4 c = rw (sym (c .before .before .before .before .fields-good .ensures) ∙ not-false _ (c .before .before .before .if1 .left), lt-ltb _ _ (c .before .before .if2 .left), lt-ltb _ _ (c .before .if3 .left), le-ltb _ _ (c .if4 .taken))
+returns-4 c =
+    let second = c .before in
+    let first = second .before in
+    let fields = first .before in
+    let good = sym (fields .before .fields-good .ensures) ∙ not-false _ (fields .if1 .left) in
+    rw (good, lt-ltb _ _ (first .if2 .left), lt-ltb _ _ (second .if3 .left), le-ltb _ _ (c .if4 .taken))
 
 mul-width3 : tie.Need-mul-width3
 mul-width3 c = search needs
@@ -42,7 +51,13 @@ width3-requires : tie.Need-width3-requires
 width3-requires c κs = search needs
 
 returns-5 : tie.Need-returns-5
-returns-5 c = rw (sym (c .before .before .before .before .before .before .before .before .fields-good .ensures) ∙ not-false _ (c .before .before .before .before .before .before .before .if1 .left), lt-ltb _ _ (c .before .before .before .before .before .before .if2 .left), lt-ltb _ _ (c .before .before .before .before .before .if3 .left), lt-ltb _ _ (c .before .before .before .before .if4 .left)) (c .width3 .ensures)
+returns-5 c =
+    let third = c .before .before .before .before in
+    let second = third .before in
+    let first = second .before in
+    let fields = first .before in
+    let good = sym (fields .before .fields-good .ensures) ∙ not-false _ (fields .if1 .left) in
+    rw (good, lt-ltb _ _ (first .if2 .left), lt-ltb _ _ (second .if3 .left), lt-ltb _ _ (third .if4 .left)) (c .width3 .ensures)
 
 pub three-rows-spec : {M : Type 1} → statement M
 three-rows-spec =

@@ -15,7 +15,11 @@ returns-2 : tie.Need-returns-2
 returns-2 c = rw (sym (c .before .before .fields-good .ensures) ∙ not-false _ (c .before .if1 .left), le-ltb _ _ (c .if2 .taken))
 
 returns-3 : tie.Need-returns-3
-returns-3 c = rw (sym (c .before .before .before .fields-good .ensures) ∙ not-false _ (c .before .before .if1 .left), lt-ltb _ _ (c .before .if2 .left), le-ltb _ _ (c .if3 .taken))
+returns-3 c =
+    let first = c .before in
+    let fields = first .before in
+    let good = sym (fields .before .fields-good .ensures) ∙ not-false _ (fields .if1 .left) in
+    rw (good, lt-ltb _ _ (first .if2 .left), le-ltb _ _ (c .if3 .taken))
 
 mul-width2 : tie.Need-mul-width2
 mul-width2 c = search needs
@@ -33,7 +37,12 @@ width2-requires : tie.Need-width2-requires
 width2-requires c κs = search needs
 
 returns-4 : tie.Need-returns-4
-returns-4 c = rw (sym (c .before .before .before .before .before .before .fields-good .ensures) ∙ not-false _ (c .before .before .before .before .before .if1 .left), lt-ltb _ _ (c .before .before .before .before .if2 .left), lt-ltb _ _ (c .before .before .before .if3 .left)) (c .width2 .ensures)
+returns-4 c =
+    let second = c .before .before .before in
+    let first = second .before in
+    let fields = first .before in
+    let good = sym (fields .before .fields-good .ensures) ∙ not-false _ (fields .if1 .left) in
+    rw (good, lt-ltb _ _ (first .if2 .left), lt-ltb _ _ (second .if3 .left)) (c .width2 .ensures)
 
 pub two-rows-spec : {M : Type 1} → statement M
 two-rows-spec =

@@ -11,7 +11,8 @@ use Rattle.rules.proofs.joins2.Tie as tie
 returns : tie.Need-returns
 returns c =
     let s = c .before .args in
-    λ w. rw (ne-eqb _ _ (c .if1 .taken), not-both (s .a) (s .b) w (c .if1 .taken), either-zero (eqb (s .rule) jOneBit), either-zero (eqb (s .rule) jEqual))
+    let unequal = c .if1 .taken in
+    λ w. rw (ne-eqb _ _ unequal, not-both (s .a) (s .b) w unequal, either-zero (eqb (s .rule) jOneBit), either-zero (eqb (s .rule) jEqual))
 
 joins-same-requires : tie.Need-joins-same-requires
 joins-same-requires c κs = search needs

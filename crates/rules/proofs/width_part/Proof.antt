@@ -15,10 +15,17 @@ part-width-requires : tie.Need-part-width-requires
 part-width-requires c κs = search needs
 
 returns-2 : tie.Need-returns-2
-returns-2 c = passed _ {r = c .before .before .before .joins-part .result} (c .before .before .before .joins-part .ensures) (not-false _ (c .before .before .if1 .left)) _ _ (rw (eq-eqb _ _ (c .before .if2 .taken)) (c .part-width .ensures))
+returns-2 c =
+    let joined = c .before .before in
+    let told = joined .before .joins-part in
+    let kept = not-false _ (joined .if1 .left) in
+    passed _ {r = told .result} (told .ensures) kept _ _ (rw (eq-eqb _ _ (c .before .if2 .taken)) (c .part-width .ensures))
 
 returns-3 : tie.Need-returns-3
-returns-3 c = passed _ {r = c .before .before .joins-part .result} (c .before .before .joins-part .ensures) (not-false _ (c .before .if1 .left)) _ _ (rw (ne-eqb _ _ (c .if2 .left)))
+returns-3 c =
+    let joined = c .before in
+    let told = joined .before .joins-part in
+    passed _ {r = told .result} (told .ensures) (not-false _ (joined .if1 .left)) _ _ (rw (ne-eqb _ _ (c .if2 .left)))
 
 pub width-part-spec : {M : Type 1} → statement M
 width-part-spec =

@@ -115,7 +115,8 @@ returns-2 c =
     let s = entry (c .before) .args in
     let l = turn (c .before) .loop in
     let h = rw (turn (c .before) .before .before .row-count .ensures) at (c .before .before .before .before .before .before .loop-test .taken) in
-    (sym (first-at (rowStops (s .graph) (s .nbits) (s .side .now) (s .g .now)) _ _ h (eq-eqb _ _ (sym (width-is (c .before)) ∙ c .if2 .taken)) (l .inv .3)), l .inv .2)
+    let none = eq-eqb _ _ (sym (width-is (c .before)) ∙ c .if2 .taken) in
+    (sym (first-at (rowStops (s .graph) (s .nbits) (s .side .now) (s .g .now)) _ _ h none (l .inv .3)), l .inv .2)
 
 mul-ws : tie.Need-mul-ws Inv-loop μ-loop
 mul-ws c = search needs
@@ -149,7 +150,8 @@ returns-3 c =
     let s = c .before .before .before .before .before .before .before .args in
     let l = c .before .loop in
     let e = c .before .before .before .row-count .ensures in
-    (sym (first-past (rowStops (s .graph) (s .nbits) (s .side .now) (s .g .now)) _ _ (rw e at (l .inv .0)) (rw e at (c .loop-test .left)) (l .inv .3)), l .inv .2)
+    let stops = rowStops (s .graph) (s .nbits) (s .side .now) (s .g .now) in
+    (sym (first-past stops _ _ (rw e at (l .inv .0)) (rw e at (c .loop-test .left)) (l .inv .3)), l .inv .2)
 
 pub rows-wf-spec : {M : Type 1} → statement M
 rows-wf-spec =
