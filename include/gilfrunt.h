@@ -35,6 +35,11 @@ extern "C" {
 /* In a map: no image. */
 #define GILFRUNT_MAX UINT64_MAX
 
+/* The most bits that a row may have. A row that would have more is not well formed, so
+ * every width that a function leaves in a list is between 1 and this.
+ */
+#define GILFRUNT_CEILING 4096
+
 /* Words of a row, words of an entry, bytes of a book's table of contents. */
 #define GILFRUNT_SOURCE_ROW 5
 #define GILFRUNT_TARGET_ROW 4
@@ -144,12 +149,13 @@ typedef struct gilfrunt_answer {
  *       detail 1           its tag does not use and that is not 0
  *   17  place position,    first byte of bits above 1
  *       detail 1
- *    1  place row          first row that is not well formed
+ *    1  place row          first row that is not well formed, also one that
+ *                          would have more than GILFRUNT_CEILING bits
  *    0                     accepted
  *
- * 0 leaves the width of each row in widths and zeros after the last row. 15 and
- * 18 write nothing; every other refusal sets the whole list to 0. The other
- * lists are only read.
+ * 0 leaves the width of each row, 1 to GILFRUNT_CEILING, in widths and zeros after
+ * the last row. 15 and 18 write nothing; every other refusal sets the whole list to
+ * 0. The other lists are only read.
  */
 gilfrunt_answer gilfrunt_source_widths(
     const uint64_t *source, size_t source_len,
@@ -165,7 +171,8 @@ gilfrunt_answer gilfrunt_source_widths(
  *       detail 2           here), or with an unused field that is not 0
  *   17  place position,    first byte of bits above 1
  *       detail 2
- *    2  place row          first row that is not well formed
+ *    2  place row          first row that is not well formed, also one that
+ *                          would have more than GILFRUNT_CEILING bits
  *    0                     accepted
  *
  * widths is left as by gilfrunt_source_widths. The other lists are only read.
@@ -199,7 +206,8 @@ gilfrunt_answer gilfrunt_roots(
  *       detail 2
  *   17  place position,    first byte of bits above 1
  *       detail 2
- *    2  place row          first row that is not well formed
+ *    2  place row          first row that is not well formed, as by
+ *                          gilfrunt_target_widths
  *   21  place row          first row wider than 64 bits
  *   22  place rows,        given_len is not the number of rows: place is that
  *       detail given_len   number
@@ -231,8 +239,9 @@ gilfrunt_answer gilfrunt_values(
  *       detail 1, 2        target (2)
  *   17  place position,    byte above 1, likewise
  *       detail 1, 2
- *    1  place row          source row that is not well formed
- *    2  place row          target row that is not well formed
+ *    1  place row          source row that is not well formed, also one that would
+ *                          have more than GILFRUNT_CEILING bits
+ *    2  place row          target row that is not well formed, likewise
  *    3  place expected,    map_len is not the number of source rows
  *       detail found
  *    5  place entry        bad read entry

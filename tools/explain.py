@@ -7,7 +7,7 @@ worked out here, after the scope's rules, for a reader's help.
 from itertools import combinations
 from typing import NamedTuple, Optional
 
-from graph import CORE_TAGS, MAX, TAGS, bits_text, fill, tag_of, word_text, words_text
+from graph import CEILING, CORE_TAGS, MAX, TAGS, bits_text, fill, tag_of, word_text, words_text
 from listing import BITS, CALL, CONTENTS, READ, SECTIONS, Book, decode, entry_text, unpack
 
 LIMIT = 65536  # bytes that verdict reads
@@ -102,6 +102,9 @@ def ill_formed(graph, place):
         return lines
     fields = graph.rows[place][1:]
     lines += [f"{tag.name} needs {tag.shape.needs}"]
+    width = graph.asked_width(graph.rows[place])
+    if width > CEILING:
+        lines += [f"it would have {width:,} bits; no row may have more than {CEILING:,}"]
     named = [fields[k] for k in tag.shape.operands] + side_rows(graph, tag.name, fields)
     if None in named:
         return lines + [f"its stretch ends past the {len(graph.side)} words of its list"]

@@ -8,6 +8,7 @@ import re
 from typing import Callable, NamedTuple
 
 MAX = 2**64 - 1
+CEILING = 4096  # no row is wider
 SOURCE_WORDS, TARGET_WORDS = 5, 4
 CORE_TAGS = 37
 
@@ -18,7 +19,7 @@ class Shape(NamedTuple):
     form: str  # how the fields are written; each # is one, in order
     fields: str  # their names
     operands: tuple  # which fields name earlier rows
-    width: Callable  # (graph, *fields) to the width, 0 for an ill-formed row
+    width: Callable  # (graph, *fields) to the width, 0 where the rule gives none
     needs: str  # when a row is well formed
 
 
@@ -42,17 +43,13 @@ def extract_width(graph, high, low, a):
     return high - low + 1 if low <= high < graph.width_at(a) else 0
 
 
-def sum_width(first, second):
-    return first + second if first + second <= MAX else 0
-
-
 def concat_width(graph, a, b):
     widths = graph.width_at(a), graph.width_at(b)
-    return sum_width(*widths) if all(widths) else 0
+    return sum(widths) if all(widths) else 0
 
 
 def extend_width(graph, a, by):
-    return sum_width(graph.width_at(a), by) if graph.width_at(a) else 0
+    return graph.width_at(a) + by if graph.width_at(a) else 0
 
 
 def ite_width(graph, c, t, e):
@@ -74,17 +71,17 @@ def call_width(graph, function, width, start, count):
     return width if good else 0
 
 
-VAR = Shape("#", "width", (), lambda graph, width: width, "a width above 0")
+VAR = Shape("#", "width", (), lambda graph, width: width, "a width of 1 to 4,096")
 CONST = Shape("bits #+#", "start width", (), const_width,
-              "a width above 0 and a stretch within the bit list")
+              "a width of 1 to 4,096 and a stretch within the bit list")
 BIN = Shape("# #", "a b", (0, 1), same_width, "two earlier rows of one width")
 COMPARE = BIN._replace(width=compare_width)
 BOOL = BIN._replace(width=bool_width, needs="two earlier rows of width 1")
 CONCAT = BIN._replace(width=concat_width,
-                      needs="two earlier rows, their widths' sum below 2^64")
+                      needs="two earlier rows, their widths' sum at most 4,096")
 EXTRACT = Shape("high # low # of #", "high low a", (2,), extract_width,
                 "low <= high < the width of an earlier row")
-EXTEND = Shape("# by #", "a by", (0,), extend_width, "an earlier row, a sum below 2^64")
+EXTEND = Shape("# by #", "a by", (0,), extend_width, "an earlier row, a sum of at most 4,096")
 ITE = Shape("# # #", "c a b", (0, 1, 2), ite_width,
             "an earlier row of width 1 and two of one width")
 NOT = Shape("#", "a", (0,), bool_width, "an earlier row of width 1")
@@ -93,7 +90,7 @@ SELECT = Shape("array # index # pairs #+#", "array index start count", (1,), sel
                "an earlier index row of width 32, and pairs of an earlier index "
                "row of width 32 and an earlier value row of width 8")
 CALL = Shape("function # width # arguments #+#", "function width start count", (), call_width,
-             "a width above 0 and earlier rows as arguments")
+             "a width of 1 to 4,096 and earlier rows as arguments")
 
 
 class Tag(NamedTuple):
@@ -164,9 +161,11 @@ class Graph:
         self.rows = [words[at:at + size] for at in range(0, len(words), size)]
         self.widths = []
         for row in self.rows:
-            self.widths.append(self.width(row))
+            width = self.asked_width(row)
+            self.widths.append(width if width <= CEILING else 0)
 
-    def width(self, row):
+    def asked_width(self, row):
+        """The width that a row would have, also above the ceiling; 0 where its rule gives none."""
         tag = tag_of(row, self.size)
         if tag is None:
             return 0

@@ -218,6 +218,9 @@ EXPLAINED = [
     ("case-8b", ["due there: BoolOr(Not(Eq(0, 1)), Eq(2, 3))", "read entry 1"]),
     ("case-9b", ["0 congruence roots are due", "target root 0"]),
     ("case-10b", ["must be an Ite over Eq 0 1 with 2 first", "target row 4: Eq 1 0"]),
+    ("ceiling-source", ["source row 3: ZeroExt 2 by 1 (ill-formed)", "a sum of at most 4,096",
+                        "it would have 4,097 bits; no row may have more than 4,096"]),
+    ("ceiling-target", ["it would have 18,446,744,073,709,551,616 bits; no row"]),
     ("empty-reply-wrong", ["pair 1", "read entry 2: variable 13", "target row 12: Var 8"]),
 ]
 

@@ -9,7 +9,7 @@ import unittest
 
 import believe
 from explain import ANSWERS
-from graph import CORE_TAGS, SOURCE_WORDS, TAGS, TARGET_WORDS, Graph
+from graph import CEILING, CORE_TAGS, SOURCE_WORDS, TAGS, TARGET_WORDS, Graph
 from listing import BITS, CALL, CONTENTS, READ, SECTIONS
 
 TOP = os.path.dirname(os.path.dirname(os.path.abspath(__file__)))
@@ -89,6 +89,16 @@ class Tags(unittest.TestCase):
             with self.subTest(tag=tag.name):
                 self.assertEqual(tag.shape.width(graph, *used), expected[row[4]])
 
+    def test_ceiling(self):
+        """One number in the definition, the code, the tools and each rule that names it."""
+        defined = re.search(r"(?m)^ceiling = (\d+)$", content("crates", "rules", "specs", "Rule.antt"))
+        coded = re.search(r"(?m)^const CEILING: u64 = (\d+);$", content("crates", "wf", "src", "lib.rt"))
+        self.assertEqual([int(found.group(1)) for found in (defined, coded)], [CEILING] * 2)
+        asked = {tag.name for tag in TAGS if f"{CEILING:,}" in tag.shape.needs}
+        self.assertEqual(asked, {"Var", "Const", "Concat", "ZeroExt", "SignExt", "Call"})
+        words = [0, CEILING, 0, 0, 0, 0, CEILING + 1, 0, 0, 0, 17, 0, 1, 0, 0]
+        self.assertEqual(Graph("source", words, SOURCE_WORDS, b"").widths, [CEILING, 0, 0])
+
     def test_values_are_named_as_defined(self):
         """The operators in the order of the table of crates/value."""
         text = content("crates", "value", "specs", "Operate.antt")
@@ -115,7 +125,7 @@ class Tags(unittest.TestCase):
         self.assertEqual({name: int(size) for name, size in sizes.items()},
                          {"SOURCE_ROW": SOURCE_WORDS, "TARGET_ROW": TARGET_WORDS,
                           "READ_ENTRY": READ.count("#"), "CALL_ENTRY": CALL.count("#"),
-                          "CONTENTS": CONTENTS})
+                          "CONTENTS": CONTENTS, "CEILING": CEILING})
 
 
 class Answers(unittest.TestCase):

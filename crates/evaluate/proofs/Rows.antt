@@ -81,7 +81,7 @@ module _ (g bits given : List ℕ) where
     row-ready =
         record {
           formed = E .formed i h;
-          positive = λ a l. E .formed a (omega arith) .positive;
+          positive = λ a l. E .formed a (omega arith) .is-width .positive;
           narrow = E .narrow;
           fits = λ a. number-fits a (decLt a i);
           clean = E .clean;

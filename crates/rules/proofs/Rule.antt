@@ -4,26 +4,48 @@ use mathlib.Core.Path.{_≡_, refl, sym, _∙_}
 use mathlib.Core.Bool.{Bool, true, false, cond}
 use mathlib.Core.List.{List}
 use native.Mathlib.Omega.{arith}
-use borrow.Author.Tests.{le-leb, lt-leb, ne-eqb, eqb-true}
-use lib.Dec.{eqb}
+use borrow.Author.Tests.{le-leb, lt-leb, leb-false, ne-eqb, eqb-true}
+use lib.Dec.{eqb, leb}
 use lib.ListN.{length}
 use Rattle.lists.specs.First.{none}
+use Rattle.rows.specs.Row.{MAX}
 use Rattle.rules.specs.Rule.{capped, ceiling, same, entriesGood}
+use Rattle.rules.specs.Table.{inWord}
 
--- a word is within the ceiling
-pub capped-word : (w : ℕ) → w < 2 ^ 64 → capped w ≡ w
-capped-word w h = rw (le-leb w ceiling (omega arith))
+-- a word, and what is none
+pub in-word : (w : ℕ) → w < 2 ^ 64 → inWord w ≡ w
+in-word w h = rw (le-leb w MAX (omega arith))
 
--- what passes the ceiling has no width
+pub past-word : (w : ℕ) → MAX < w → inWord w ≡ 0
+past-word w h = rw (lt-leb w MAX h)
+
+-- a width within the ceiling, and one that passes it
+pub capped-in : (w : ℕ) → w ≤ ceiling → capped w ≡ w
+capped-in w h = rw (le-leb w ceiling h)
+
 pub capped-over : (w : ℕ) → ceiling < w → capped w ≡ 0
 capped-over w h = rw (lt-leb w ceiling h)
 
+-- what is no word passes the ceiling too
+capped-word : (w : ℕ) → capped (inWord w) ≡ capped w
+capped-word w = go (leb w MAX) refl
+  where
+    go : (t : Bool) → leb w MAX ≡ t → capped (cond t w 0) ≡ capped w
+    go true e = refl
+    go false e = sym (capped-over w (omega (arith, leb-false w MAX e)))
+
+-- the same behind two tests
+pub capped-tested : (p q : Bool) (w : ℕ) → capped (cond p (cond q (inWord w) 0) 0) ≡ cond p (cond q (capped w) 0) 0
+capped-tested true true w = capped-word w
+capped-tested true false w = refl
+capped-tested false q w = refl
+
 -- a rule that a test decides: the width passes, or there is none
 module _ (rule : ℕ → ℕ) {r : Bool} (decides : (w : ℕ) → rule w ≡ cond r w 0) where
-  pub passed : r ≡ true → (w v : ℕ) → v ≡ capped w → v ≡ capped (rule w)
+  pub passed : r ≡ true → (w v : ℕ) → v ≡ inWord w → v ≡ inWord (rule w)
   passed t w v e = rw (decides w, t) e
 
-  pub stopped : r ≡ false → (w : ℕ) → 0 ≡ capped (rule w)
+  pub stopped : r ≡ false → (w : ℕ) → 0 ≡ inWord (rule w)
   stopped t w = rw (decides w, t)
 
 -- a choice between 0 and 0, and the same choice again

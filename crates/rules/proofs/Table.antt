@@ -6,11 +6,12 @@ use mathlib.Core.Bool.{cond}
 use mathlib.Core.List.{List, [], _∷_}
 use native.Mathlib.Nat.{not-suc-le-zero, le-of-suc-le-suc, add-zero, add-suc, suc-add, zero-add}
 use lib.ListN.{length, getD}
-use Rattle.rows.specs.Node.{nodeFrom}
+use Rattle.rows.specs.Node.{nodeFrom, operands}
 use Rattle.encoding.specs.Encoding.{fieldCount, fieldsGood}
 use Rattle.rules.specs.declared.lines.Line.{Line}
-use Rattle.rules.specs.Rule.{nodeWidth}
-use Rattle.rules.specs.Table.{table, lineAt, lineWidth}
+use Rattle.rules.specs.Rule.{capped, rule, earlier, nodeWidth}
+use Rattle.rules.specs.Table.{table, lineAt, lineWidth, inWord}
+use Rattle.rules.proofs.Rule.{capped-tested}
 
 -- a number of each entry of a list and its place, counted from i
 along : {A : Type 0} → (ℕ → A → ℕ) → ℕ → List A → List ℕ
@@ -34,15 +35,19 @@ module _ (nbits : ℕ) (side ws : List ℕ) (a b c d : ℕ) where
   by-line t l = lineWidth nbits side ws l a b c d
 
   by-rule : ℕ → Line → ℕ
-  by-rule t l = cond (fieldsGood (fieldCount t) b c d) (nodeWidth nbits side ws (nodeFrom t a b c d)) 0
+  by-rule t l =
+      let node = nodeFrom t a b c d in
+      cond (fieldsGood (fieldCount t) b c d) (cond (earlier (operands node) (length ws)) (inWord (rule nbits side ws node)) 0) 0
 
   -- the whole table: what its lines give is what the rules give
   whole : along by-line 0 table ≡ along by-rule 0 table
   unfolding along by-line by-rule
   whole = refl
 
-  -- a line is its tag's rule, of rows whose unused fields are 0
+  -- a line is its tag's rule, of rows whose unused fields are 0, within the ceiling
   pub line-rule : (t : ℕ) → t < 39
-      → lineWidth nbits side ws (lineAt t) a b c d ≡ cond (fieldsGood (fieldCount t) b c d) (nodeWidth nbits side ws (nodeFrom t a b c d)) 0
+      → capped (lineWidth nbits side ws (lineAt t) a b c d) ≡ cond (fieldsGood (fieldCount t) b c d) (nodeWidth nbits side ws (nodeFrom t a b c d)) 0
   unfolding by-line by-rule
-  line-rule t h = along-same by-line by-rule (lineAt 39) table whole t h
+  line-rule t h =
+      ap capped (along-same by-line by-rule (lineAt 39) table whole t h)
+      ∙ capped-tested (fieldsGood (fieldCount t) b c d) (earlier (operands (nodeFrom t a b c d)) (length ws)) (rule nbits side ws (nodeFrom t a b c d))

@@ -9,13 +9,12 @@ use lib.ListN.{length, getD}
 use Rattle.lists.specs.First.{none}
 use Rattle.rows.specs.declared.Node.{Node}
 use Rattle.rows.specs.declared.Node.the-variants.{Var, Const, Un, Bin, Extract, Extend, Ite, Select, Call, Unknown}
-use Rattle.rows.specs.Row.{MAX}
 use Rattle.rows.specs.Tags.{tConcat, tNot, isBool, isCompare}
 use Rattle.rows.specs.Node.{operands}
 
--- no width passes it, and a sum of widths that would is refused
+-- "A row whose width would pass 4,096 is ill-formed" (02, 2.8)
 abbrev pub ceiling : ℕ
-ceiling = MAX
+ceiling = 4096
 
 abbrev pub capped : ℕ → ℕ
 capped w = cond (leb w ceiling) w 0

@@ -7,9 +7,10 @@ use mathlib.Core.Bool.{cond}
 use mathlib.Core.List.{List, [], _∷_}
 use lib.Dec.{eqb, ltb, leb}
 use lib.ListN.{length, getD}
+use Rattle.rows.specs.Row.{MAX}
 use Rattle.encoding.specs.Encoding.{fieldsGood}
 use Rattle.rules.specs.declared.lines.Line.{Line}
-use Rattle.rules.specs.Rule.{capped, indexWidth, cellWidth, same, chainGood, argsGood, earlier}
+use Rattle.rules.specs.Rule.{indexWidth, cellWidth, same, chainGood, argsGood, earlier}
 
 -- how many operands, side lists aside, and where they stand: none; one, in field 2, 1 or 3; two, in fields 1 and 2; three
 abbrev pub oNone : ℕ
@@ -135,6 +136,10 @@ table =
 abbrev pub lineAt : ℕ → Line
 lineAt t = getD table t (line oNone jAny sOne)
 
+-- w where it is a word, so that a sum of two never wraps; a width past the ceiling is refused behind the line
+abbrev pub inWord : ℕ → ℕ
+inWord w = cond (leb w MAX) w 0
+
 -- What the rules and the sources are, by the operands that a row has, of widths a, b, c. A rule lets a width w pass or gives 0; a rule
 -- or a source that asks for other operands gives 0.
 -- One, in field 1
@@ -179,14 +184,14 @@ from3 source b = cond (eqb source sSecond) b 0
 -- Rows after rows of widths ws, by their operands. Which fields they use is known with these; the others are 0 (16), or there is no width.
 -- No operand: by the rule
 abbrev pub rowAny : ℕ → ℕ → ℕ → ℕ → ℕ → ℕ
-rowAny source f1 f2 f3 f4 = cond (fieldsGood 1 f2 f3 f4) (capped (cond (eqb source sField1) f1 0)) 0
+rowAny source f1 f2 f3 f4 = cond (fieldsGood 1 f2 f3 f4) (inWord (cond (eqb source sField1) f1 0)) 0
 
 abbrev pub rowInBits : ℕ → ℕ → ℕ → ℕ → ℕ → ℕ → ℕ
 rowInBits source nbits f1 f2 f3 f4 =
-    cond (fieldsGood 2 f2 f3 f4) (capped (cond (leb (f1 + f2) nbits) (cond (eqb source sField2) f2 0) 0)) 0
+    cond (fieldsGood 2 f2 f3 f4) (inWord (cond (leb (f1 + f2) nbits) (cond (eqb source sField2) f2 0) 0)) 0
 
 abbrev pub rowArguments : ℕ → List ℕ → List ℕ → ℕ → ℕ → ℕ → ℕ
-rowArguments source side ws f2 s k = capped (cond (argsGood ws side s k) (cond (eqb source sField2) f2 0) 0)
+rowArguments source side ws f2 s k = inWord (cond (argsGood ws side s k) (cond (eqb source sField2) f2 0) 0)
 
 abbrev pub row0 : ℕ → ℕ → ℕ → List ℕ → List ℕ → ℕ → ℕ → ℕ → ℕ → ℕ
 row0 rule source nbits side ws f1 f2 f3 f4 =
@@ -198,12 +203,12 @@ row0 rule source nbits side ws f1 f2 f3 f4 =
 abbrev pub rowOne : ℕ → ℕ → List ℕ → ℕ → ℕ → ℕ → ℕ → ℕ
 rowOne rule source ws x f2 f3 f4 =
     let a = getD ws x 0 in
-    cond (fieldsGood 1 f2 f3 f4) (cond (earlier (x ∷ []) (length ws)) (capped (join1 rule a (from1 source a))) 0) 0
+    cond (fieldsGood 1 f2 f3 f4) (cond (earlier (x ∷ []) (length ws)) (inWord (join1 rule a (from1 source a))) 0) 0
 
 abbrev pub rowExtended : ℕ → List ℕ → ℕ → ℕ → ℕ → ℕ → ℕ
 rowExtended rule ws x f2 f3 f4 =
     let a = getD ws x 0 in
-    cond (fieldsGood 2 f2 f3 f4) (cond (earlier (x ∷ []) (length ws)) (capped (join1 rule a (a + f2))) 0) 0
+    cond (fieldsGood 2 f2 f3 f4) (cond (earlier (x ∷ []) (length ws)) (inWord (join1 rule a (a + f2))) 0) 0
 
 abbrev pub row1 : ℕ → ℕ → List ℕ → ℕ → ℕ → ℕ → ℕ → ℕ
 row1 rule source ws x f2 f3 f4 = cond (eqb source sExtended) (rowExtended rule ws x f2 f3 f4) (rowOne rule source ws x f2 f3 f4)
@@ -212,27 +217,27 @@ row1 rule source ws x f2 f3 f4 = cond (eqb source sExtended) (rowExtended rule w
 abbrev pub rowChain : ℕ → ℕ → List ℕ → List ℕ → ℕ → ℕ → ℕ → ℕ → ℕ
 rowChain rule source side ws array x s k =
     let w = cond (chainGood (indexWidth array) (cellWidth array) ws side s k) (fromCell source array) 0 in
-    cond (eqb rule jChain) (cond (earlier (x ∷ []) (length ws)) (capped (joinIndex array (getD ws x 0) w)) 0) 0
+    cond (eqb rule jChain) (cond (earlier (x ∷ []) (length ws)) (inWord (joinIndex array (getD ws x 0) w)) 0) 0
 
 -- one, in field 3
 abbrev pub rowPart : ℕ → ℕ → List ℕ → ℕ → ℕ → ℕ → ℕ → ℕ
 rowPart rule source ws high low x f4 =
     cond (fieldsGood 3 low x f4)
-    (cond (earlier (x ∷ []) (length ws)) (capped (joinPart rule high low (getD ws x 0) (fromPart source high low))) 0) 0
+    (cond (earlier (x ∷ []) (length ws)) (inWord (joinPart rule high low (getD ws x 0) (fromPart source high low))) 0) 0
 
 -- two
 abbrev pub row2 : ℕ → ℕ → List ℕ → ℕ → ℕ → ℕ → ℕ → ℕ
 row2 rule source ws x y f3 f4 =
     let a = getD ws x 0 in
     let b = getD ws y 0 in
-    cond (fieldsGood 2 y f3 f4) (cond (earlier (x ∷ y ∷ []) (length ws)) (capped (join2 rule a b (from2 source a b))) 0) 0
+    cond (fieldsGood 2 y f3 f4) (cond (earlier (x ∷ y ∷ []) (length ws)) (inWord (join2 rule a b (from2 source a b))) 0) 0
 
 -- three
 abbrev pub row3 : ℕ → ℕ → List ℕ → ℕ → ℕ → ℕ → ℕ → ℕ
 row3 rule source ws x y z f4 =
     let b = getD ws y 0 in
     cond (fieldsGood 3 y z f4)
-    (cond (earlier (x ∷ y ∷ z ∷ []) (length ws)) (capped (join3 rule (getD ws x 0) b (getD ws z 0) (from3 source b))) 0) 0
+    (cond (earlier (x ∷ y ∷ z ∷ []) (length ws)) (inWord (join3 rule (getD ws x 0) b (getD ws z 0) (from3 source b))) 0) 0
 
 -- the width that a line gives a row of these fields, or 0: where a side list can be, and where none can
 abbrev pub listedWidth : ℕ → List ℕ → List ℕ → Line → ℕ → ℕ → ℕ → ℕ → ℕ

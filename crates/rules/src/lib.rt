@@ -3,28 +3,25 @@ ghost use mathlib.Core.Path.{_≡_};
 ghost use mathlib.Core.Bool.{cond};
 ghost use Prim.Native.Nat.{ℕ, _+_, _-_};
 ghost use lib.Dec.{leb};
-ghost use Rattle.rules.specs.Rule.{capped, same};
+ghost use Rattle.rules.specs.Rule.{same};
 ghost use Rattle.rules.specs.Table.{from1, fromPart, fromCell, from2, from3};
-ghost use Rattle.rules.specs.Table.{join1, joinPart, joinIndex, join2, join3, inPart};
+ghost use Rattle.rules.specs.Table.{join1, joinPart, joinIndex, join2, join3, inPart, inWord};
 
 pub mod join;
 pub mod lines;
 pub mod operand;
 pub mod source;
 
-// No width passes it.
-const CEILING: u64 = rows::MAX;
-
 // The widths of a Select's index and of an array's cell.
 pub const INDEX_WIDTH: u64 = 32;
 
 pub const CELL_WIDTH: u64 = 8;
 
-// The sum of two widths, or 0 where it passes the ceiling.
+// The sum of two widths, or 0 where it is no word.
 fn sum_width(a: u64, b: u64) -> u64
-    ensures width { λ r. ⌜ r ≡ capped (a + b) ⌝ }
+    ensures width { λ r. ⌜ r ≡ inWord (a + b) ⌝ }
 {
-    if CEILING - b < a {
+    if rows::MAX - b < a {
         return 0;
     }
     a + b
@@ -32,7 +29,7 @@ fn sum_width(a: u64, b: u64) -> u64
 
 // The number of bits from low up to high.
 fn part_width(high: u64, low: u64) -> u64
-    ensures width { λ r. ⌜ r ≡ capped (high - low + 1) ⌝ }
+    ensures width { λ r. ⌜ r ≡ inWord (high - low + 1) ⌝ }
 {
     if high < low {
         return 1;
@@ -83,7 +80,7 @@ fn joins1(rule: u8, a: u64) -> bool
 
 // Without a branch between the two: which of them it is, is hard to foresee.
 fn width_from1(from: u8, a: u64) -> u64
-    ensures width { λ r. ⌜ r ≡ capped (from1 from a) ⌝ }
+    ensures width { λ r. ⌜ r ≡ inWord (from1 from a) ⌝ }
 {
     if source::FIRST < from {
         return 0;
@@ -92,7 +89,7 @@ fn width_from1(from: u8, a: u64) -> u64
 }
 
 pub fn width1(rule: u8, from: u8, a: u64) -> u64
-    ensures width { λ r. ⌜ r ≡ capped (join1 rule a (from1 from a)) ⌝ }
+    ensures width { λ r. ⌜ r ≡ inWord (join1 rule a (from1 from a)) ⌝ }
 {
     if joins1(rule, a) {
         width_from1(from, a)
@@ -103,7 +100,7 @@ pub fn width1(rule: u8, from: u8, a: u64) -> u64
 
 // The same with the width and field 2.
 pub fn width_extended(rule: u8, f2: u64, a: u64) -> u64
-    ensures width { λ r. ⌜ r ≡ capped (join1 rule a (a + f2)) ⌝ }
+    ensures width { λ r. ⌜ r ≡ inWord (join1 rule a (a + f2)) ⌝ }
 {
     if joins1(rule, a) { sum_width(a, f2) } else { 0 }
 }
@@ -119,7 +116,7 @@ fn joins_part(rule: u8, high: u64, low: u64, a: u64) -> bool
 }
 
 pub fn width_part(rule: u8, from: u8, high: u64, low: u64, a: u64) -> u64
-    ensures width { λ r. ⌜ r ≡ capped (joinPart rule high low a (fromPart from high low)) ⌝ }
+    ensures width { λ r. ⌜ r ≡ inWord (joinPart rule high low a (fromPart from high low)) ⌝ }
 {
     if !joins_part(rule, high, low, a) {
         return 0;
@@ -133,7 +130,7 @@ pub fn width_part(rule: u8, from: u8, high: u64, low: u64, a: u64) -> u64
 
 // With one operand in field 2, an array's index. Its rule is join::CHAIN, which the caller has looked at.
 pub fn width_index(from: u8, array: u64, a: u64) -> u64
-    ensures width { λ r. ⌜ r ≡ capped (joinIndex array a (fromCell from array)) ⌝ }
+    ensures width { λ r. ⌜ r ≡ inWord (joinIndex array a (fromCell from array)) ⌝ }
 {
     if a != INDEX_WIDTH {
         return 0;
@@ -164,7 +161,7 @@ fn joins2(rule: u8, a: u64, b: u64) -> bool
 }
 
 fn width_from2(from: u8, a: u64, b: u64) -> u64
-    ensures width { λ r. ⌜ r ≡ capped (from2 from a b) ⌝ }
+    ensures width { λ r. ⌜ r ≡ inWord (from2 from a b) ⌝ }
 {
     if from == source::SUM {
         return sum_width(a, b);
@@ -173,7 +170,7 @@ fn width_from2(from: u8, a: u64, b: u64) -> u64
 }
 
 pub fn width2(rule: u8, from: u8, a: u64, b: u64) -> u64
-    ensures width { λ r. ⌜ r ≡ capped (join2 rule a b (from2 from a b)) ⌝ }
+    ensures width { λ r. ⌜ r ≡ inWord (join2 rule a b (from2 from a b)) ⌝ }
 {
     if joins2(rule, a, b) {
         width_from2(from, a, b)
@@ -193,7 +190,7 @@ fn joins3(rule: u8, a: u64, b: u64, c: u64) -> bool
 }
 
 fn width_from3(from: u8, b: u64) -> u64
-    ensures width { λ r. ⌜ r ≡ capped (from3 from b) ⌝ }
+    ensures width { λ r. ⌜ r ≡ inWord (from3 from b) ⌝ }
 {
     match from {
         source::SECOND => b,
@@ -202,7 +199,7 @@ fn width_from3(from: u8, b: u64) -> u64
 }
 
 pub fn width3(rule: u8, from: u8, a: u64, b: u64, c: u64) -> u64
-    ensures width { λ r. ⌜ r ≡ capped (join3 rule a b c (from3 from b)) ⌝ }
+    ensures width { λ r. ⌜ r ≡ inWord (join3 rule a b c (from3 from b)) ⌝ }
 {
     if joins3(rule, a, b, c) {
         width_from3(from, b)

@@ -3,12 +3,16 @@
 -- Assumes that Check accepts, whatever lists are lent, and that the target has no more words than a slice can have. Nothing else.
 use Prim.Native.Nat.{ℕ, _≤_}
 use mathlib.Core.Logic.{_↔_}
-use mathlib.Core.List.{List}
+use mathlib.Core.List.{List, []}
 use lib.ListN.{length}
 use Rattle.value.specs.Graph.{Assigns}
 use Rattle.meaning.specs.Meaning.{Interpretation, OfKind}
+use Rattle.rows.specs.declared.Graph.the-variants.{Source, Target}
 use Rattle.rows.specs.Row.{MAX}
+use Rattle.wf.specs.Promise.{AreWidths}
+use Rattle.wf.proofs.Promise.{are-widths}
 use Rattle.lowering.specs.Lowering.{Lowering}
+use Rattle.lowering.specs.Check.{widthsOfSource, widthsOfTarget}
 use Rattle.soundness.specs.Sound.{Accepts, Sound, ImagesAgree, SourceTrue, TargetTrue, SourceIsSatisfiable, TargetIsSatisfiable}
 use Rattle.soundness.specs.Transfer.{assignment, interpretation}
 use Rattle.soundness.proofs.Passed.{passed}
@@ -42,3 +46,11 @@ module _ (L : Lowering) (ws0 ws1 cls ent : List ℕ) (slice : length (L .target 
   -- demand 3
   pub sound : Sound L
   sound = record { forward = forward; backward = backward; equisatisfiable = equisatisfiable }
+
+  -- "Every width handed upward is therefore between 1 and 4,096, and whoever receives one may use it" (02, 2.8)
+  pub handed : AreWidths (widthsOfSource L) × AreWidths (widthsOfTarget L)
+  handed =
+      let P = passed L ws0 ws1 cls ent accepts in (
+        are-widths Source (length (L .source .bits)) (L .source .side) (L .source .rows) (P .source-formed),
+        are-widths Target (length (L .target .bits)) [] (L .target .rows) (P .target-formed),
+      )

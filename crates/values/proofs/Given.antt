@@ -22,7 +22,8 @@ use Rattle.encoding.specs.Encoding.{badRow, badBit}
 use Rattle.encoding.proofs.Encoding.{clean}
 use Rattle.value.proofs.Tagged.{core-rows, node-var}
 use Rattle.wf.specs.Widths.{illRow, widths, rowWidth}
-use Rattle.wf.proofs.Promise.{well-formed}
+use Rattle.wf.specs.Promise.{AreWidths}
+use Rattle.wf.proofs.Promise.{well-formed, are-widths}
 use Rattle.refusals.specs.Rows.{rowsAnswer}
 use Rattle.inputs.specs.Inputs.{rowWide, wideRow, wordBad, badWord, givenAnswer}
 
@@ -55,6 +56,10 @@ module _ (g bits given : List ℕ) (rows : isAccepted (rowsAnswer Target g bits 
 
   pub width-count : length (widths Target (length bits) [] g) ≡ rowCount Target g
   width-count = build-length (rowWidth Target (length bits) [] g) (rowCount Target g)
+
+  -- "Every width handed upward is therefore between 1 and 4,096" (02, 2.8)
+  pub handed : AreWidths (widths Target (length bits) [] g)
+  handed = are-widths Target (length bits) [] g (rows-passed .2)
 
   narrow : (a : ℕ) → getD (widths Target (length bits) [] g) a 0 ≤ 64
   narrow =

@@ -19,7 +19,7 @@ use Rattle.rows.specs.Tags.{tConcat, tNot, isBool}
 use Rattle.rows.specs.Node.{nodeOf, operands}
 use Rattle.rules.specs.Rule.{ceiling, capped, indexWidth, cellWidth, same, unWidth, binWidth, hasWidth, pairBad, argBad, entriesGood, chainGood, argsGood, rule, earlier, nodeWidth}
 use Rattle.wf.specs.Widths.{rowWidth, widthsTo, widths, rowIll, illRow}
-use Rattle.wf.specs.Promise.{Below, PairFormed, ArgFormed, BinFormed, Follows, RowFormed, WellFormed}
+use Rattle.wf.specs.Promise.{Below, PairFormed, ArgFormed, BinFormed, Follows, IsWidth, AreWidths, RowFormed, WellFormed}
 
 below : (n : ℕ) (l : List ℕ) → earlier l n ≡ true → Below n l
 below n [] e = tt
@@ -127,7 +127,8 @@ module _ (nbits : ℕ) (side ws : List ℕ) (width : ℕ → ℕ) (agree : (a : 
       let (a, b) = taken (earlier (operands node) (length ws)) (capped (rule nbits side ws node)) (width (length ws)) e h in
       let (x, y) = taken (leb (rule nbits side ws node) ceiling) (rule nbits side ws node) (width (length ws)) b h in
       let o = below (length ws) (operands node) a in
-      record { earlier = o; positive = h; within = rw y at (leb-true (rule nbits side ws node) ceiling x); follows = follows node (width (length ws)) o y h }
+      let is-width : IsWidth (width (length ws)) = record { positive = h; within = rw y at (leb-true (rule nbits side ws node) ceiling x) } in
+      record { earlier = o; is-width = is-width; follows = follows node (width (length ws)) o y h }
 
 -- The promise: a graph without an ill-formed row is well formed, with its widths.
 pub well-formed : (graph : Graph) (nbits : ℕ) (side g : List ℕ) → rowCount graph g ≤ illRow graph nbits side g
@@ -142,3 +143,9 @@ well-formed graph nbits side g all i h =
   where
     f : ℕ → List ℕ → ℕ
     f = rowWidth graph nbits side g
+
+-- and every width that is handed upward lies between 1 and the ceiling
+pub are-widths : (graph : Graph) (nbits : ℕ) (side g : List ℕ) → rowCount graph g ≤ illRow graph nbits side g
+    → AreWidths (widths graph nbits side g)
+are-widths graph nbits side g all i h =
+    well-formed graph nbits side g all i (rw (build-length (rowWidth graph nbits side g) (rowCount graph g)) at h) .is-width

@@ -51,11 +51,18 @@ Follows nbits side width i (Select array j s k) w =
 Follows nbits side width i (Call f v s k) w = (w ≡ v) × ((l : ℕ) → l < k → ArgFormed side i s l)
 Follows nbits side width i Unknown w = ⊥
 
--- row i: its operands are earlier rows, its width lies above 0 and within the ceiling and follows its rule
+-- "Every width handed upward is therefore between 1 and 4,096, and whoever receives one may use it" (02, 2.8): a number, and each of a list
+pub record IsWidth (w : ℕ) : Type 0 where
+  pub positive : 0 < w
+  pub within : w ≤ ceiling
+
+abbrev pub AreWidths : List ℕ → Type 0
+AreWidths ws = (i : ℕ) → i < length ws → IsWidth (getD ws i 0)
+
+-- row i: its operands are earlier rows, its width is one and follows its rule
 pub record RowFormed (nbits : ℕ) (side : List ℕ) (width : ℕ → ℕ) (i : ℕ) (node : Node) : Type 0 where
   pub earlier : Below i (operands node)
-  pub positive : 0 < width i
-  pub within : width i ≤ ceiling
+  pub is-width : IsWidth (width i)
   pub follows : Follows nbits side width i node (width i)
 
 -- every row of a graph, with a list of widths

@@ -10,6 +10,9 @@ ghost use Rattle.wf.specs.Pass.{stopRow};
 use rows::Graph;
 use rules::lines::Line;
 
+// No width passes it.
+const CEILING: u64 = 4096;
+
 // The pass over all rows, with a copy of the table: the first row that is badly encoded or ill-formed, or the number of rows.
 fn rows_wf(
     lines: [Line; 39],
@@ -36,6 +39,9 @@ fn rows_wf(
         let line = lines[t];
         let w = operands::line_width(line, r, nbits, side, &ws[..i]);
         if w == 0 {
+            return i;
+        }
+        if CEILING < w {
             return i;
         }
         ws[i] = w;

@@ -7,6 +7,8 @@ use Rattle.answers.specs.declared.Answer.the-variants.{Accepted, Ext, Core, Row
 use Rattle.lists.specs.First.{first}
 use Rattle.lists.specs.Build.{build}
 use Rattle.answers.specs.Result.{result}
+use Rattle.rows.specs.declared.Graph.the-variants.{Target}
+use Rattle.wf.specs.Widths.{illRow}
 use Rattle.widths.specs.Widths.{sourceWidths, targetWidths, rootsAnswer}
 
 -- rows of five and of four words
@@ -95,11 +97,46 @@ bad-bit : targetWidths (t4 0 0 0 0 []) (1 ∷ 2 ∷ []) (junk 1) ≡ result (Bad
 unfolding first
 bad-bit = refl
 
--- sums and ranges near 2^64-1 end in a refusal
-wide-sum : targetWidths (t4 0 max 0 0 (t4 16 0 1 0 [])) [] (junk 2) ≡ result (Core 1) ((0 ∷ 0 ∷ []) ∷ [])
+-- "A row whose width would pass 4,096 is ill-formed, as 1 in a source and 2 in a target" (02, 2.8): 4,096 passes, from each tag that can pass it
+at-ceiling : sourceWidths (s5 0 4096 0 0 0 (s5 0 2048 0 0 0 (s5 15 1 1 0 0 (s5 16 1 2048 0 0 (s5 17 0 0 0 0 (s5 38 3 4096 max 0 [])))))) [] [] (junk 6)
+    ≡ result Accepted ((4096 ∷ 2048 ∷ 4096 ∷ 4096 ∷ 4096 ∷ 4096 ∷ []) ∷ [])
+unfolding first build
+at-ceiling = refl
+
+wide-var : sourceWidths (s5 0 4097 0 0 0 []) [] [] (junk 1) ≡ result (Ext 0) ((0 ∷ []) ∷ [])
+unfolding first build
+wide-var = refl
+
+wide-target : targetWidths (t4 0 4097 0 0 []) [] (junk 1) ≡ result (Core 0) ((0 ∷ []) ∷ [])
+unfolding first build
+wide-target = refl
+
+wide-call : sourceWidths (s5 38 3 4097 0 0 []) [] [] (junk 1) ≡ result (Ext 0) ((0 ∷ []) ∷ [])
+unfolding first build
+wide-call = refl
+
+wide-const : illRow Target 4097 [] (t4 1 0 4096 0 (t4 1 0 4097 0 [])) ≡ 1
+unfolding first build
+wide-const = refl
+
+wide-sum : targetWidths (t4 0 4096 0 0 (t4 0 1 0 0 (t4 15 0 1 0 []))) [] (junk 3) ≡ result (Core 2) ((0 ∷ 0 ∷ 0 ∷ []) ∷ [])
 unfolding first build
 wide-sum = refl
 
+wide-extension : targetWidths (t4 0 4096 0 0 (t4 16 0 1 0 [])) [] (junk 2) ≡ result (Core 1) ((0 ∷ 0 ∷ []) ∷ [])
+unfolding first build
+wide-extension = refl
+
+-- nothing wraps, and an earlier row is named first
+far-extension : sourceWidths (s5 0 1 0 0 0 (s5 17 0 max 0 0 [])) [] [] (junk 2) ≡ result (Ext 1) ((0 ∷ 0 ∷ []) ∷ [])
+unfolding first build
+far-extension = refl
+
+far-sum : targetWidths (t4 0 max 0 0 (t4 15 0 0 0 [])) [] (junk 2) ≡ result (Core 0) ((0 ∷ 0 ∷ []) ∷ [])
+unfolding first build
+far-sum = refl
+
+-- ranges near 2^64-1 end in a refusal
 far-bits : targetWidths (t4 1 max 1 0 []) (0 ∷ []) (junk 1) ≡ result (Core 0) ((0 ∷ []) ∷ [])
 unfolding first build
 far-bits = refl

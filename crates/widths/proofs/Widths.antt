@@ -1,16 +1,18 @@
 -- The outcome of the width operations, refusal by refusal. Assumes nothing.
 use Prim.Native.Nat.{ℕ, _-_, _<_, _≤_}
-use mathlib.Core.Path.{_≡_, refl, ap}
+use mathlib.Core.Path.{_≡_, refl, sym, ap, _∙_}
 use mathlib.Core.Bool.{Bool, true, false, cond}
 use mathlib.Core.List.{List, [], _∷_, _++_}
 use native.Mathlib.Decide.{decLt}
 use native.Mathlib.Omega.{arith}
-use borrow.Author.Tests.{lt-ltb, le-ltb}
+use borrow.Author.Tests.{lt-ltb, le-ltb, ltb-false}
 use lib.Dec.{ltb}
 use lib.ListN.{length, replicate, take, drop}
+use Rattle.answers.specs.declared.Answer.{Answer}
 use Rattle.answers.specs.declared.Answer.the-variants.{Accepted, RowCount, BadRow, BadBit, WorkShort}
-use Rattle.answers.specs.Answer.{lent}
+use Rattle.answers.specs.Answer.{isAccepted, lent}
 use Rattle.answers.specs.Result.{result}
+use Rattle.lists.proofs.Choice.{no-way}
 use Rattle.lists.proofs.Build.{build-length, build-front}
 use Rattle.rows.specs.declared.Graph.{Graph}
 use Rattle.rows.specs.declared.Graph.the-variants.{Source, Target}
@@ -18,9 +20,11 @@ use Rattle.rows.specs.Row.{graphNumber, rowCount, ragged}
 use Rattle.encoding.specs.Encoding.{badRow, badBit}
 use Rattle.wf.specs.Widths.{illRow, widths, widthsTo, rowWidth}
 use Rattle.wf.specs.Pass.{stopRow}
+use Rattle.wf.specs.Promise.{AreWidths}
+use Rattle.wf.proofs.Promise.{are-widths}
 use Rattle.wf.proofs.Stop.{stop-none, stop-ill}
 use Rattle.refusals.specs.Rows.{illFormed, rowsAnswer}
-use Rattle.widths.specs.Widths.{graphWidths}
+use Rattle.widths.specs.Widths.{widthsAnswer, graphWidths}
 
 -- a bad row, a bad bit and an ill-formed row zero the list
 lent-zero : (p q : Bool) (graph : Graph) (a b d row : ℕ) (old new : List ℕ)
@@ -85,3 +89,24 @@ pub accepted-list : (graph : Graph) (nbits : ℕ) (g side ws l : List ℕ) (n r 
 accepted-list graph nbits g side ws l n r en er el e =
     rw (el, e, er, en)
     (ap (λ (z : List ℕ). z ++ replicate (length ws - rowCount graph g) 0) (build-front (rowWidth graph nbits side g) (rowCount graph g) _))
+
+-- a refusal that was not met, where the answer accepts
+unmet : (b : Bool) (refusal next : Answer) → isAccepted refusal ≡ false → isAccepted (cond b refusal next) ≡ true
+    → (b ≡ false) × (isAccepted next ≡ true)
+unmet true refusal next n e = no-way (sym e ∙ n)
+unmet false refusal next n e = (refl, e)
+
+ill-refuses : (graph : Graph) (row : ℕ) → isAccepted (illFormed graph row) ≡ false
+ill-refuses Source row = refl
+ill-refuses Target row = refl
+
+-- "Every width handed upward is therefore between 1 and 4,096" (02, 2.8): by an operation that accepts
+pub handed : (graph : Graph) (g bits side : List ℕ) (room : ℕ) → isAccepted (widthsAnswer graph g bits side room) ≡ true
+    → AreWidths (widths graph (length bits) side g)
+handed graph g bits side room e =
+    let whole = unmet (ragged graph g) _ _ refl e .1 in
+    let roomy = unmet (ltb room (rowCount graph g)) _ _ refl whole .1 in
+    let rows = unmet (ltb (badRow graph g) (rowCount graph g)) _ _ refl roomy .1 in
+    let clean = unmet (ltb (badBit bits) (length bits)) _ _ refl rows .1 in
+    let formed = unmet (ltb (illRow graph (length bits) side g) (rowCount graph g)) _ _ (ill-refuses graph _) clean .0 in
+    are-widths graph (length bits) side g (ltb-false _ _ formed)

@@ -1,8 +1,8 @@
--- The unused fields are 0, the bits lie in the list, then the one source; a word is within the ceiling. Assumes nothing.
+-- The unused fields are 0, the bits lie in the list, then the one source. Assumes nothing.
 use mathlib.Core.Path.{_∙_, sym}
 use native.Mathlib.Omega.{arith}
 use borrow.Author.Tests.{eq-eqb, ne-eqb, not-true, not-false}
-use Rattle.rules.proofs.Rule.{capped-word}
+use Rattle.rules.proofs.Rule.{in-word}
 use borrow.Author.Needs.{needs}
 use Rattle.operands.proofs.bits_row.Statement.{statement}
 use Rattle.operands.proofs.bits_row.Tie as tie
@@ -28,7 +28,7 @@ returns-3 c =
     let fields = bits .before .before in
     let good = sym (fields .before .fields-good .ensures) ∙ not-false _ (fields .if1 .left) in
     let within = sym (bits .before .bits-in .ensures) ∙ not-false _ (bits .if2 .left) in
-    rw (good, within, eq-eqb _ _ (c .if3 .taken)) (sym (capped-word _ (omega arith)))
+    rw (good, within, eq-eqb _ _ (c .if3 .taken)) (sym (in-word _ (omega arith)))
 
 returns-4 : tie.Need-returns-4
 returns-4 c =

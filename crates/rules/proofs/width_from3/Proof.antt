@@ -1,13 +1,13 @@
--- The one source of three operands, and no width past it; a word is within the ceiling. Assumes nothing.
+-- The one source of three operands, and no width past it. Assumes nothing.
 use mathlib.Core.Path.{sym}
 use native.Mathlib.Omega.{arith}
 use borrow.Author.Tests.{ne-eqb}
-use Rattle.rules.proofs.Rule.{capped-word}
+use Rattle.rules.proofs.Rule.{in-word}
 use Rattle.rules.proofs.width_from3.Statement.{statement}
 use Rattle.rules.proofs.width_from3.Tie as tie
 
 returns : tie.Need-returns
-returns c = rw (c .match .keys1) (sym (capped-word _ (omega arith)))
+returns c = rw (c .match .keys1) (sym (in-word _ (omega arith)))
 
 returns-2 : tie.Need-returns-2
 returns-2 c = rw (ne-eqb _ _ (c .match .rest .1))

@@ -15,6 +15,8 @@ use Rattle.lists.proofs.First.{first-at, first-past}
 use Rattle.lists.proofs.Build.{build-start, build-front, build-store}
 use Rattle.encoding.specs.Encoding.{tagCount}
 use Rattle.encoding.proofs.Encoding.{tags-in}
+use Rattle.rules.specs.Rule.{capped}
+use Rattle.rules.proofs.Rule.{capped-in, capped-over}
 use Rattle.wf.proofs.Stop.{good-width, line-good}
 use Rattle.wf.specs.Widths.{rowWidth, widthsTo}
 use Rattle.wf.specs.Pass.{goodWidth, rowStops}
@@ -93,16 +95,16 @@ turn c = c .before .before .before .before .before .before
 abbrev entry : tie.After-line-width Inv-loop μ-loop → tie.Start Inv-loop μ-loop
 entry c = turn c .before .before .before .before .before .before
 
--- what the call gives, over the widths before row i
+-- what the call gives, over the widths before row i, within the ceiling
 width-is : (c : tie.After-line-width Inv-loop μ-loop)
     → let s = entry c .args in
     let i = turn c .loop .i in
-    c .line-width .result ≡ goodWidth (s .graph) (s .nbits) (s .side .now) (s .g .now) i (widthsTo (s .graph) (s .nbits) (s .side .now) (s .g .now) i)
+    capped (c .line-width .result) ≡ goodWidth (s .graph) (s .nbits) (s .side .now) (s .g .now) i (widthsTo (s .graph) (s .nbits) (s .side .now) (s .g .now) i)
 width-is c =
     let s = entry c .args in
     let l = turn c .loop in
     let row = c .before .before .before .before .row in
-    c .line-width .ensures
+    ap capped (c .line-width .ensures)
     ∙ line-good (s .graph) (s .nbits) (s .side .now) (s .g .now) (l .i) (take (l .i) (l .ws)) (s .t1) (row .result) (entry c .pre .0) (row .ensures)
     (below (c .before .before .before))
     ∙ ap (goodWidth (s .graph) (s .nbits) (s .side .now) (s .g .now) (l .i)) (ap (take (l .i)) (l .inv .2) ∙ build-front _ (l .i) _)
@@ -115,7 +117,19 @@ returns-2 c =
     let s = entry (c .before) .args in
     let l = turn (c .before) .loop in
     let h = rw (turn (c .before) .before .before .row-count .ensures) at (c .before .before .before .before .before .before .loop-test .taken) in
-    let none = eq-eqb _ _ (sym (width-is (c .before)) ∙ c .if2 .taken) in
+    let none = eq-eqb _ _ (sym (width-is (c .before)) ∙ ap capped (c .if2 .taken)) in
+    (sym (first-at (rowStops (s .graph) (s .nbits) (s .side .now) (s .g .now)) _ _ h none (l .inv .3)), l .inv .2)
+
+same-length-3 : tie.Need-same-length-3 Inv-loop μ-loop
+same-length-3 c = search needs
+
+returns-3 : tie.Need-returns-3 Inv-loop μ-loop
+returns-3 c =
+    let told = c .before .before in
+    let s = entry told .args in
+    let l = turn told .loop in
+    let h = rw (turn told .before .before .row-count .ensures) at (told .before .before .before .before .before .loop-test .taken) in
+    let none = eq-eqb _ _ (sym (width-is told) ∙ capped-over _ (c .if3 .taken)) in
     (sym (first-at (rowStops (s .graph) (s .nbits) (s .side .now) (s .g .now)) _ _ h none (l .inv .3)), l .inv .2)
 
 mul-ws : tie.Need-mul-ws Inv-loop μ-loop
@@ -132,21 +146,23 @@ loop-less c = search needs
 
 loop-again : tie.Need-loop-again Inv-loop μ-loop
 loop-again c =
-    let s = entry (c .before) .args in
-    let l = turn (c .before) .loop in
-    let on = ne-eqb _ _ (λ z. c .if2 .left (width-is (c .before) ∙ z)) in (
+    let told = c .before .before in
+    let s = entry told .args in
+    let l = turn told .loop in
+    let width = sym (capped-in _ (c .if3 .left)) ∙ width-is told in
+    let on = ne-eqb _ _ (λ z. c .before .if2 .left (width ∙ z)) in (
       omega arith,
       simp length-set (l .inv .1),
       stored (rowWidth (s .graph) (s .nbits) (s .side .now) (s .g .now)) (s .ws .now) (l .ws) (l .i) _ (l .inv .2)
-          (width-is (c .before) ∙ good-width (s .graph) (s .nbits) (s .side .now) (s .g .now) (l .i) on) (omega arith),
+          (width ∙ good-width (s .graph) (s .nbits) (s .side .now) (s .g .now) (l .i) on) (omega arith),
       below-more _ _ (l .inv .3) on,
     )
 
-same-length-3 : tie.Need-same-length-3 Inv-loop μ-loop
-same-length-3 c = search needs
+same-length-4 : tie.Need-same-length-4 Inv-loop μ-loop
+same-length-4 c = search needs
 
-returns-3 : tie.Need-returns-3 Inv-loop μ-loop
-returns-3 c =
+returns-4 : tie.Need-returns-4 Inv-loop μ-loop
+returns-4 c =
     let s = c .before .before .before .before .before .before .before .args in
     let l = c .before .loop in
     let e = c .before .before .before .row-count .ensures in
@@ -174,10 +190,12 @@ rows-wf-spec =
     line-width-requires
     same-length-2
     returns-2
+    same-length-3
+    returns-3
     mul-ws
     slice-write-ws
     add-i
     loop-less
     loop-again
-    same-length-3
-    returns-3)
+    same-length-4
+    returns-4)
