@@ -165,6 +165,15 @@ cases-one-test : answer (lowering (s5 38 3 16 0 0 []) [] [] [] (0 ∷ []) [] (0 
 unfolding firstRefusal build first all agree trace rowIs bothConst sameConst unequalConst sameRead sameFunction sameCall readGood callGood isEq isLevel walk endGood callMatches varMatches nodeMatches rowAnswer rowClasses leads pairsWith pairs readsNeed allEqual congruent rootAt
 cases-one-test = refl
 
+-- the ceiling (02, 2.8): a variable of 4,096 bits passes; a Call of 4,097 is 1, before the map that is short; a target's Concat of 4,097 bits is 2
+cases-ceiling : answer (lowering (s5 0 4096 0 0 0 []) [] [] [] (0 ∷ []) [] [] [] (t4 0 4096 0 0 []) [] [])
+    ∷ answer (lowering (s5 38 3 4097 0 0 []) [] [] [] [] [] [] [] (t4 0 4097 0 0 []) [] [])
+    ∷ answer (lowering (s5 0 1 0 0 0 []) [] [] [] [] [] [] [] (t4 0 1 0 0 (t4 0 4096 0 0 (t4 15 0 1 0 []))) [] [])
+    ∷ []
+    ≡ accepted ∷ words 1 0 0 ∷ words 2 2 0 ∷ []
+unfolding firstRefusal build first all agree trace rowIs bothConst sameConst unequalConst sameRead sameFunction sameCall readGood callGood isEq isLevel walk endGood callMatches varMatches nodeMatches rowAnswer rowClasses leads pairsWith pairs readsNeed allEqual congruent rootAt
+cases-ceiling = refl
+
 -- why a dead entry is refused (docs/PROOF.md): source Var(32) twice, Select(7,0), Select(7,1), Ne(2,3), root 4, is satisfiable. The target has a third entry,
 -- variable 5, whose index Ite(Eq(5,2),1,0) mentions its own variable and which no Select reaches; with the roots that its pairs need it is not satisfiable
 abbrev dead-entry : Lowering

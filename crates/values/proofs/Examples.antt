@@ -2,7 +2,7 @@
 use Prim.Native.Nat.{ℕ}
 use mathlib.Core.Path.{_≡_, refl}
 use mathlib.Core.List.{List, [], _∷_}
-use Rattle.answers.specs.declared.Answer.the-variants.{Accepted, WorkShort, TooWide, ValueCount, ValueRange}
+use Rattle.answers.specs.declared.Answer.the-variants.{Accepted, Core, WorkShort, TooWide, ValueCount, ValueRange}
 use Rattle.bv.specs.Bv.{rotate-right}
 use Rattle.lists.specs.First.{first}
 use Rattle.lists.specs.Build.{build}
@@ -31,6 +31,15 @@ short = refl
 too-wide : values (t4 0 65 0 0 []) [] [] (9 ∷ []) (9 ∷ []) ≡ result (TooWide 0 0) ((0 ∷ []) ∷ (0 ∷ []) ∷ [])
 unfolding first build
 too-wide = refl
+
+-- the ceiling (02, 2.8) goes before 21
+at-ceiling : values (t4 0 4096 0 0 []) [] [] (9 ∷ []) (9 ∷ []) ≡ result (TooWide 0 0) ((0 ∷ []) ∷ (0 ∷ []) ∷ [])
+unfolding first build
+at-ceiling = refl
+
+past-ceiling : values (t4 0 65 0 0 (t4 16 0 4032 0 [])) [] [] (9 ∷ 9 ∷ []) (9 ∷ 9 ∷ []) ≡ result (Core 1) ((0 ∷ 0 ∷ []) ∷ (0 ∷ 0 ∷ []) ∷ [])
+unfolding first build
+past-ceiling = refl
 
 count : values (two 2) [] (1 ∷ 9 ∷ []) (9 ∷ 9 ∷ 9 ∷ []) (9 ∷ 9 ∷ 9 ∷ []) ≡ result (ValueCount 3 2) ((0 ∷ 0 ∷ 0 ∷ []) ∷ (0 ∷ 0 ∷ 0 ∷ []) ∷ [])
 unfolding first build

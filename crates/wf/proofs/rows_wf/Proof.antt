@@ -19,7 +19,7 @@ use Rattle.rules.specs.Rule.{capped}
 use Rattle.rules.proofs.Rule.{capped-in, capped-over}
 use Rattle.wf.proofs.Stop.{good-width, line-good}
 use Rattle.wf.specs.Widths.{rowWidth, widthsTo}
-use Rattle.wf.specs.Pass.{goodWidth, rowStops}
+use Rattle.wf.specs.Pass.{goodWidth, rowStops, stopRow}
 use Rattle.wf.proofs.rows_wf.Statement.{statement}
 use Rattle.wf.proofs.rows_wf.Tie as tie
 
@@ -109,28 +109,30 @@ width-is c =
     (below (c .before .before .before))
     ∙ ap (goodWidth (s .graph) (s .nbits) (s .side .now) (s .g .now) (l .i)) (ap (take (l .i)) (l .inv .2) ∙ build-front _ (l .i) _)
 
+-- a row without one is where the pass stops
+stops : (c : tie.After-line-width Inv-loop μ-loop) → capped (c .line-width .result) ≡ 0
+    → let s = entry c .args in
+    let l = turn c .loop in
+    (l .i ≡ stopRow (s .graph) (s .nbits) (s .side .now) (s .g .now))
+    × (l .ws ≡ widthsTo (s .graph) (s .nbits) (s .side .now) (s .g .now) (l .i) ++ drop (l .i) (s .ws .now))
+stops c e =
+    let s = entry c .args in
+    let l = turn c .loop in
+    let h = rw (turn c .before .before .row-count .ensures) at (c .before .before .before .before .before .loop-test .taken) in
+    let none = eq-eqb _ _ (sym (width-is c) ∙ e) in
+    (sym (first-at (rowStops (s .graph) (s .nbits) (s .side .now) (s .g .now)) _ _ h none (l .inv .3)), l .inv .2)
+
 same-length-2 : tie.Need-same-length-2 Inv-loop μ-loop
 same-length-2 c = search needs
 
 returns-2 : tie.Need-returns-2 Inv-loop μ-loop
-returns-2 c =
-    let s = entry (c .before) .args in
-    let l = turn (c .before) .loop in
-    let h = rw (turn (c .before) .before .before .row-count .ensures) at (c .before .before .before .before .before .before .loop-test .taken) in
-    let none = eq-eqb _ _ (sym (width-is (c .before)) ∙ ap capped (c .if2 .taken)) in
-    (sym (first-at (rowStops (s .graph) (s .nbits) (s .side .now) (s .g .now)) _ _ h none (l .inv .3)), l .inv .2)
+returns-2 c = stops (c .before) (ap capped (c .if2 .taken))
 
 same-length-3 : tie.Need-same-length-3 Inv-loop μ-loop
 same-length-3 c = search needs
 
 returns-3 : tie.Need-returns-3 Inv-loop μ-loop
-returns-3 c =
-    let told = c .before .before in
-    let s = entry told .args in
-    let l = turn told .loop in
-    let h = rw (turn told .before .before .row-count .ensures) at (told .before .before .before .before .before .loop-test .taken) in
-    let none = eq-eqb _ _ (sym (width-is told) ∙ capped-over _ (c .if3 .taken)) in
-    (sym (first-at (rowStops (s .graph) (s .nbits) (s .side .now) (s .g .now)) _ _ h none (l .inv .3)), l .inv .2)
+returns-3 c = stops (c .before .before) (capped-over _ (c .if3 .taken))
 
 mul-ws : tie.Need-mul-ws Inv-loop μ-loop
 mul-ws c = search needs
