@@ -16,7 +16,7 @@ use crate::judged;
 use crate::operation::Operation;
 use crate::ours::Answer;
 use crate::random::Random;
-use crate::rules::ACCEPTED;
+use crate::rules::{self, ACCEPTED};
 use crate::tally::nothing_missing;
 
 /// How many of a hundred random books go in piece by piece.
@@ -67,7 +67,11 @@ impl Run<'_> {
     /// is given; false, with a report, when it does not print the expected line.
     fn judge(&mut self, input: &[u8], pieces: Option<&mut Random>, which: &str) -> bool {
         let expected = book::verdict(input);
-        let labels = [Some(label(input, expected)), edge(input, expected)];
+        let labels = [
+            Some(label(input, expected)),
+            edge(input, expected),
+            judged_by(input, expected),
+        ];
         for label in labels.into_iter().flatten() {
             *self.came.entry(label).or_default() += 1;
         }
@@ -139,6 +143,24 @@ fn edge(input: &[u8], expected: Answer) -> Option<String> {
     }
 }
 
+/// Who answered about a book that has good shape and is not refused by 15 to 18.
+fn judged_by(input: &[u8], expected: Answer) -> Option<String> {
+    if book::input_shape(input) != Shape::Good || (15..=18).contains(&expected.number) {
+        return None;
+    }
+    let above = || rules::above(CHECK.lists(), &book::held(input)).is_some();
+    if matches!(expected.number, 1 | 2) && above() {
+        return Some(by_rule(expected.number));
+    }
+    Some(BY_RUST.to_string())
+}
+
+const BY_RUST: &str = "with the Rust";
+
+fn by_rule(number: u64) -> String {
+    format!("{} above the ceiling, by the rule", numbered(number))
+}
+
 const LONGEST_AND_ONE: usize = LONGEST + 1;
 const LAST_TAKEN: &str = "65,536 bytes, accepted";
 const FIRST_REFUSED: &str = "65,537 bytes, good but for that";
@@ -161,7 +183,8 @@ fn shaped(shape: Shape) -> String {
 fn due() -> Vec<String> {
     let mut due: Vec<String> = (0..=17).map(numbered).collect();
     due.extend([Shape::Short, Shape::LeftOver, Shape::Long].map(shaped));
-    due.extend([LAST_TAKEN, FIRST_REFUSED].map(String::from));
+    due.extend([LAST_TAKEN, FIRST_REFUSED, BY_RUST].map(String::from));
+    due.extend([1, 2].map(by_rule));
     for section in 0..SECTIONS {
         let mut faults = vec![Fault::Start, Fault::Past];
         if !book::is_bits(section) {

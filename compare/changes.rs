@@ -4,7 +4,7 @@
 
 use crate::check::at;
 use crate::operation::Lists;
-use crate::rules::{SOURCE, TARGET};
+use crate::rules::{CEILING, SOURCE, TARGET};
 use crate::tags::*;
 
 const MAX: u64 = u64::MAX;
@@ -67,8 +67,10 @@ fn words_changed(lists: &Lists, list: usize) -> Vec<Lists> {
         } else {
             TARGET.row
         };
-        if matches!(list, at::SOURCE | at::TARGET) && place % row == 0 {
-            words.extend(TAG_WORDS);
+        match list {
+            at::SOURCE | at::TARGET if place % row == 0 => words.extend(TAG_WORDS),
+            at::SOURCE | at::TARGET => words.extend([CEILING, CEILING + 1]),
+            _ => {}
         }
         words.sort();
         words.dedup();

@@ -1,7 +1,9 @@
 //! Check as an operation. The answer that is expected comes from the published
-//! Rust; classes and entry offsets, which the Rust keeps to itself, and the
-//! second reference come from restated.rs. selftest.rs runs it without the library.
+//! Rust, or from the ceiling where a row passes it; classes and entry offsets,
+//! which the Rust keeps to itself, and the second reference come from restated.rs.
+//! selftest.rs runs it without the library.
 
+use crate::ceilingcases;
 use crate::changes;
 use crate::features;
 use crate::lowering;
@@ -95,6 +97,7 @@ impl Operation for Check {
         accepted
             .map(|lists| (lists, ACCEPTED))
             .chain(marked::refused())
+            .chain(ceilingcases::lowerings())
             .collect()
     }
 
@@ -127,7 +130,9 @@ impl Operation for Check {
     }
 
     fn expected(&self, lists: &Lists) -> Outcome {
-        let answer = rules::check(lists).unwrap_or_else(|| reference::check(lists));
+        let answer = rules::check(lists)
+            .or_else(|| rules::above(self.lists(), lists))
+            .unwrap_or_else(|| reference::check(lists));
         let written = if answer == ACCEPTED {
             let [source, target] = reference::check_widths(lists);
             let [_, _, classes, entries] = restated::check(lists).1;

@@ -113,7 +113,7 @@ impl Run {
     ) -> bool {
         let answer = operation.expected(lists).answer;
         if answer != known {
-            println!("{which} should get {known:?}, but the Rust gives {answer:?}");
+            println!("{which} should get {known:?}, but Rust and rules give {answer:?}");
             return false;
         }
         self.judge(operation, lists, || which.to_string())

@@ -3,6 +3,7 @@
 
 use crate::operation::{Kind, Lists};
 use crate::random::Random;
+use crate::rules::CEILING;
 
 /// Damages one list, the graphs more often than the others.
 pub fn damage(random: &mut Random, kinds: &[(&'static str, Kind)], lists: &mut Lists) {
@@ -59,7 +60,7 @@ fn edge(random: &mut Random, old: u64, at: u64, ends: &[u64]) -> u64 {
         4 => old.wrapping_add(1),
         5 => old.wrapping_sub(1),
         6 => old ^ (1 << random.below(64)),
-        7 => random.pick(&[1, 8, 32]),
+        7 => random.pick(&[1, 8, 32, CEILING, CEILING + 1]),
         _ => random.below(42),
     }
 }

@@ -4,7 +4,7 @@
 use crate::check::at;
 use crate::operation::{Kind, Lists};
 use crate::random::Random;
-use crate::rules::{SOURCE, TARGET};
+use crate::rules::{CEILING, SOURCE, TARGET};
 use crate::tags::*;
 
 const MAX: u64 = u64::MAX;
@@ -28,17 +28,18 @@ pub fn word(random: &mut Random, kinds: &[(&'static str, Kind)], lists: &mut Lis
     words[place] = edge(random, words[place], length);
 }
 
-/// Near 2^64, 2^63 or 2^32; some equal the old word in their low bits, some
-/// give a small sum with it.
+/// Near 2^64, 2^63, 2^32 or the ceiling; some equal the old word in their low
+/// bits, some give a small sum with it.
 fn edge(random: &mut Random, old: u64, length: u64) -> u64 {
     let small = random.below(4);
-    match random.below(8) {
+    match random.below(9) {
         0 | 1 => MAX - small,
         2 => (1 << 63) - 2 + small,
         3 => (1 << 32) - 2 + small,
-        4 => old ^ (1 << 63),
-        5 => old ^ (1 << 32),
-        6 => small.wrapping_sub(old),
+        4 => CEILING - 1 + small,
+        5 => old ^ (1 << 63),
+        6 => old ^ (1 << 32),
+        7 => small.wrapping_sub(old),
         _ => small.wrapping_sub(length),
     }
 }

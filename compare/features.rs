@@ -3,7 +3,7 @@
 
 use crate::check::at;
 use crate::operation::{Feature, Lists};
-use crate::rules::{SOURCE, TARGET};
+use crate::rules::{CEILING, SOURCE, TARGET};
 use crate::tags::*;
 use crate::wellformed::stretch;
 
@@ -61,8 +61,8 @@ const ROWS: [Named; 10] = [
     ("a constant at another start", |lists| {
         mapped(lists, CONST).any(|(row, image)| row[1] != image[1])
     }),
-    ("a width above 2^63", |lists| {
-        mapped(lists, VAR).any(|(row, _)| row[1] > 1 << 63)
+    ("a width of 4,096", |lists| {
+        mapped(lists, VAR).any(|(row, _)| row[1] == CEILING)
     }),
     ("a source root twice", |lists| {
         repeats(&lists[at::SOURCE_ROOTS])

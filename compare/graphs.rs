@@ -4,23 +4,24 @@
 
 use crate::operation::Lists;
 use crate::random::Random;
-use crate::rules::Graph;
+use crate::rules::{Graph, CEILING};
 use crate::tags::*;
-
-const MAX: u64 = u64::MAX;
 
 /// What a graph is rich in.
 #[derive(Clone, Copy, PartialEq, Eq)]
 pub enum Style {
     /// Few widths, so that operands often match.
     Narrow,
-    /// Widths and sums of widths near 2^63 and 2^64.
+    /// Widths and sums of widths at the ceiling or near it.
     Wide,
     /// Selects and Calls, in a source.
     Chains,
     /// Widths up to 64 and operands at the edges, in a target.
     Values,
 }
+
+/// Widths of constants at the ceiling; rare, since they take so many bits.
+pub const HIGH: [usize; 2] = [CEILING as usize, CEILING as usize - 1];
 
 pub struct Builder<'r> {
     pub random: &'r mut Random,
@@ -140,10 +141,11 @@ impl<'r> Builder<'r> {
             return self.value_width();
         }
         if self.style == Style::Wide && !self.random.once_in(4) {
-            let any = self.random.word() | 1;
+            let half = CEILING / 2;
+            let any = 1 + self.random.below(CEILING);
             return self
                 .random
-                .pick(&[1, 2, 1 << 32, 1 << 63, (1 << 63) - 1, MAX - 1, MAX, any]);
+                .pick(&[1, 2, half, half + 1, half - 1, CEILING - 1, CEILING, any]);
         }
         self.random.pick(&[1, 1, 8, 8, 32, 32, 2, 3, 64])
     }
@@ -190,7 +192,15 @@ impl<'r> Builder<'r> {
             let width = self.value_width();
             return self.edge_constant(width);
         }
-        let width = self.random.pick(&[1, 2, 8, 8, 32]);
+        let width = match self.style {
+            Style::Wide if self.random.once_in(30) => self.random.pick(&HIGH),
+            _ => self.random.pick(&[1, 2, 8, 8, 32]),
+        };
+        self.constant_of(width)
+    }
+
+    /// A constant of this width over random bits, the last ones or earlier ones.
+    pub fn constant_of(&mut self, width: usize) -> [u64; 4] {
         let spare = self.random.place(3);
         while self.bits.len() < width + spare {
             let bit = self.random.below(2);
@@ -205,9 +215,9 @@ impl<'r> Builder<'r> {
     fn extract(&mut self) -> [u64; 4] {
         let a = self.any_row();
         let top = self.widths[a as usize] - 1;
-        let other = self.random.below(top.saturating_add(1));
+        let other = self.random.below(top + 1);
         let high = self.random.pick(&[top, top, other, 0]);
-        let other = self.random.below(high.saturating_add(1));
+        let other = self.random.below(high + 1);
         let low = self.random.pick(&[0, high, other]);
         [high, low, a, 0]
     }
@@ -215,7 +225,7 @@ impl<'r> Builder<'r> {
     /// The width that sums of widths stay within.
     fn widest(&self) -> u64 {
         match self.style {
-            Style::Wide => MAX,
+            Style::Wide => CEILING,
             Style::Values => 64,
             _ => 128,
         }

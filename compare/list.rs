@@ -13,8 +13,8 @@ use crate::operation::{Kind, Lists, Operation, Outcome, OPERATIONS};
 use crate::ours::Answer;
 use crate::random::Random;
 use crate::roots::ROOTS;
-use crate::rules::{Graph, ACCEPTED, SOURCE, TARGET};
-use crate::tags::{CALL, CONCAT, EXTRACT, SELECT, VAR};
+use crate::rules::{Graph, ACCEPTED, CEILING, SOURCE, TARGET};
+use crate::tags::{CALL, SELECT, VAR};
 use crate::values::VALUES;
 use crate::widths::{SOURCE_WIDTHS, TARGET_WIDTHS};
 use crate::wrong;
@@ -94,9 +94,10 @@ pub fn list(seed: u64) -> bool {
     let mut list = List::default();
     each_tag(&mut random, SOURCE, &SOURCE_WIDTHS, &mut list);
     each_tag(&mut random, TARGET, &TARGET_WIDTHS, &mut list);
-    for lists in edges() {
-        list.add(&SOURCE_WIDTHS, lists, SHORT);
-    }
+    let mut good = edges()
+        .into_iter()
+        .all(|lists| list.add(&SOURCE_WIDTHS, lists, SHORT));
+    good &= list.add_known(&SOURCE_WIDTHS) && list.add_known(&TARGET_WIDTHS);
     for operation in [&SOURCE_WIDTHS as &dyn Operation, &TARGET_WIDTHS, &ROOTS] {
         for (number, count) in WANTED {
             if operation.answers().contains(&number) {
@@ -104,16 +105,14 @@ pub fn list(seed: u64) -> bool {
             }
         }
     }
-    let mut good = listed::cases()
+    good &= listed::cases()
         .into_iter()
         .all(|lists| list.add(&VALUES, lists, LONG));
+    good &= list.add_known(&VALUES);
     for (number, count) in WANTED_VALUES {
         some(&mut random, &VALUES, number, count, &mut list);
     }
-    good &= CHECK
-        .known()
-        .into_iter()
-        .all(|(lists, answer)| list.add_known(lists, answer));
+    good &= list.add_known(&CHECK);
     for &number in CHECK.answers() {
         some(&mut random, &CHECK, number, WANTED_CHECK, &mut list);
     }
@@ -139,23 +138,15 @@ fn each_tag(random: &mut Random, graph: Graph, operation: &dyn Operation, list: 
     }
 }
 
-/// Sources at the edges of numbers: taken, then the same one step further.
-fn edges() -> Vec<Lists> {
-    let top = MAX - 1;
-    let rows: [Vec<u64>; 6] = [
-        vec![VAR, MAX, 0, 0, 0, EXTRACT, top, 0, 0, 0],
-        vec![VAR, MAX, 0, 0, 0, EXTRACT, MAX, 0, 0, 0],
-        vec![VAR, 1, 0, 0, 0, VAR, top, 0, 0, 0, CONCAT, 0, 1, 0, 0],
-        vec![VAR, 1, 0, 0, 0, VAR, MAX, 0, 0, 0, CONCAT, 0, 1, 0, 0],
-        vec![
-            VAR, 32, 0, 0, 0, SELECT, MAX, 0, MAX, 0, CALL, MAX, MAX, MAX, 0,
-        ],
-        vec![
-            VAR, 32, 0, 0, 0, SELECT, MAX, 0, MAX, 0, CALL, MAX, MAX, MAX, 1,
-        ],
-    ];
-    let lists = |rows: Vec<u64>| vec![rows.clone(), vec![], vec![0], vec![7; rows.len() / 5]];
-    rows.into_iter().map(lists).collect()
+/// A source with MAX in every field that may hold it, and the same with an
+/// argument there, which is refused.
+fn edges() -> [Lists; 2] {
+    [0, 1].map(|count| {
+        let select = [SELECT, MAX, 0, MAX, 0];
+        let call = [CALL, MAX, CEILING, MAX, count];
+        let rows = [[VAR, 32, 0, 0, 0], select, call].concat();
+        vec![rows, vec![], vec![0], vec![7; 3]]
+    })
 }
 
 /// So many random cases that answer this number.
@@ -201,9 +192,15 @@ fn showing_edges(random: &mut Random, list: &mut List) -> bool {
 }
 
 impl List {
-    /// Adds a case of Check whose answer is known.
-    fn add_known(&mut self, lists: Lists, answer: Answer) -> bool {
-        CHECK.expected(&lists).answer == answer && self.add(&CHECK, lists, LONG)
+    /// Adds the cases of an operation whose answers are known, but for those
+    /// with more bits than a line has words.
+    fn add_known(&mut self, operation: &dyn Operation) -> bool {
+        let fits = |lists: &Lists| lists.iter().all(|list| list.len() < WORDS);
+        let mut known = operation.known().into_iter();
+        known.all(|(lists, answer)| {
+            !fits(&lists)
+                || operation.expected(&lists).answer == answer && self.add(operation, lists, LONG)
+        })
     }
 
     /// Adds the shortest of some generated cases of Check that show something,

@@ -2,9 +2,12 @@
 //! that a book can get, and sections by their numbers.
 
 use crate::book::{self, Draft, CONTENTS, SECTIONS};
+use crate::ceilingcases;
 use crate::check::{at, CHECK};
+use crate::marked;
 use crate::operation::{Lists, Operation};
 use crate::random::Random;
+use crate::rules::TARGET;
 
 const MAX: u64 = u64::MAX;
 
@@ -23,11 +26,21 @@ pub fn verdicts(random: &mut Random) -> Vec<Vec<u8>> {
     let mut books = misshapen();
     books.push(empty().bytes());
     books.push(book::draft(&small()).bytes());
-    let known = CHECK.known().into_iter();
-    books.extend(known.map(|(lists, _)| book::draft(&lists).bytes()));
+    let refused = marked::refused().into_iter().map(|(lists, _)| lists);
+    let marked = marked::accepted().into_iter().chain(refused);
+    let known = marked.chain(at_ceiling());
+    books.extend(known.map(|lists| book::draft(&lists).bytes()));
     books.extend((0..NUMBERS).map(|number| shortest(random, number)));
     books.retain(|book| book.len() <= BYTES);
     books
+}
+
+/// The cases at the ceiling whose targets have one row.
+fn at_ceiling() -> impl Iterator<Item = Lists> {
+    let cases = ceilingcases::lowerings().into_iter();
+    cases
+        .map(|(lists, _)| lists)
+        .filter(|lists| lists[at::TARGET].len() == TARGET.row)
 }
 
 /// Books with the number of a section that is asked for.

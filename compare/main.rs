@@ -11,6 +11,8 @@ mod bench_check;
 mod book;
 mod bookdamage;
 mod books;
+mod ceilingcases;
+mod ceilingcounts;
 mod chains;
 mod changes;
 mod check;
@@ -52,6 +54,7 @@ mod tally;
 mod tiny;
 mod values;
 mod wellformed;
+mod widen;
 mod widths;
 mod wrong;
 

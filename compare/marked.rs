@@ -87,21 +87,22 @@ fn constants(bits: Vec<u64>, target_roots: Vec<u64>) -> Parts {
 
 /// A lowering by its parts; what a case does not name is empty.
 #[derive(Default)]
-struct Parts {
-    source: Vec<[u64; 5]>,
-    source_bits: Vec<u64>,
-    side: Vec<u64>,
-    source_roots: Vec<u64>,
-    map: Vec<u64>,
-    reads: Vec<[u64; 3]>,
-    calls: Vec<[u64; 4]>,
-    arguments: Vec<u64>,
-    target: Vec<[u64; 4]>,
-    target_bits: Vec<u64>,
-    target_roots: Vec<u64>,
+pub struct Parts {
+    pub source: Vec<[u64; 5]>,
+    pub source_bits: Vec<u64>,
+    pub side: Vec<u64>,
+    pub source_roots: Vec<u64>,
+    pub map: Vec<u64>,
+    pub reads: Vec<[u64; 3]>,
+    pub calls: Vec<[u64; 4]>,
+    pub arguments: Vec<u64>,
+    pub target: Vec<[u64; 4]>,
+    pub target_bits: Vec<u64>,
+    pub target_roots: Vec<u64>,
 }
 
-fn lend(parts: Parts) -> Lists {
+/// The lists of a lowering, with a word to spare in each lent one.
+pub fn lend(parts: Parts) -> Lists {
     let (source, target) = (parts.source.len(), parts.target.len());
     let mut lists = vec![
         parts.source.concat(),

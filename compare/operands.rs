@@ -1,10 +1,10 @@
-//! Graphs for values: no row wider than 64 bits, operands at the edges of
-//! their widths, from variables and from constants alike.
+//! Graphs for values: mostly without rows wider than 64 bits, operands at the
+//! edges of their widths, from variables and from constants alike.
 
-use crate::graphs::{Builder, Style};
+use crate::graphs::{Builder, Style, HIGH};
 use crate::operation::Lists;
 use crate::random::Random;
-use crate::rules::TARGET;
+use crate::rules::{CEILING, TARGET};
 use crate::tags::*;
 
 /// The highest word of this width; a wider row is taken as 64 bits wide.
@@ -127,22 +127,26 @@ impl Builder<'_> {
         [room, width, 0, 0]
     }
 
-    /// Adds a row above 64 bits.
+    /// Adds a row above 64 bits, some of them at the ceiling.
     fn too_wide(&mut self) {
         let a = self.any_row();
         let width = self.widths[a as usize];
+        if self.random.once_in(30) {
+            let width = self.random.pick(&HIGH);
+            let fields = self.constant_of(width);
+            return self.push(CONST, fields);
+        }
         if width > 64 || self.random.once_in(3) {
-            let width = self.random.pick(&[65, 65, 66, 128, 1 << 63, u64::MAX]);
+            let width = self.random.pick(&[65, 65, 66, 128, CEILING - 1, CEILING]);
             return self.push(VAR, [width, 0, 0, 0]);
         }
-        let least = 65 - width;
+        let (least, most) = (65 - width, CEILING - width);
         if self.random.once_in(3) {
-            let b = self.row_of(least);
+            let other = self.random.pick(&[least, least, most]);
+            let b = self.row_of(other);
             return self.push(CONCAT, [a, b, 0, 0]);
         }
-        let by = self
-            .random
-            .pick(&[least, least, least + 1, 1 << 32, u64::MAX - width]);
+        let by = self.random.pick(&[least, least, least + 1, most - 1, most]);
         let tag = self.random.pick(&[ZERO_EXT, SIGN_EXT]);
         self.push(tag, [a, by, 0, 0]);
     }

@@ -1,10 +1,15 @@
 //! What the scope adds to the published Rust: the refusals 15 to 18 and 21 to
-//! 23, their order, and what a lent list holds after each answer.
+//! 23, their order, the ceiling of widths, and what a lent list holds after each
+//! answer.
 
 use crate::check::at;
-use crate::operation::Lists;
+use crate::operation::{Kind, Lists};
 use crate::ours::Answer;
+use crate::reference;
 use crate::tags::{TAGS, VAR};
+
+/// No row is wider.
+pub const CEILING: u64 = 4096;
 
 /// The two kinds of graph.
 #[derive(Clone, Copy)]
@@ -28,6 +33,16 @@ pub const TARGET: Graph = Graph {
     row: 4,
     tags: 37,
 };
+
+/// The graphs of an operation by the kinds of its lists, each with its place.
+pub fn graphs(kinds: &[(&'static str, Kind)]) -> Vec<(usize, Graph)> {
+    let graph = |(place, &(_, kind)): (usize, &(&str, Kind))| match kind {
+        Kind::Rows(row) if row == SOURCE.row => Some((place, SOURCE)),
+        Kind::Rows(_) => Some((place, TARGET)),
+        _ => None,
+    };
+    kinds.iter().enumerate().filter_map(graph).collect()
+}
 
 pub const ACCEPTED: Answer = answer(0, 0, 0);
 
@@ -74,32 +89,71 @@ fn added(graph: Graph, rows: &[u64], bits: &[u64], lent: &[(u64, &[u64])]) -> Op
         .or_else(|| bad_bit(graph, bits))
 }
 
-/// The answer of source widths or target widths, and the widths that an
-/// acceptance writes. `judge` is the reference, asked only when none of the
-/// four rules above applies.
-pub fn widths(
-    graph: Graph,
-    rows: &[u64],
-    bits: &[u64],
-    lent: &[u64],
-    judge: impl FnOnce() -> Result<Vec<u64>, u64>,
-) -> (Answer, Vec<u64>) {
-    let refusal = added(graph, rows, bits, &[(graph.number, lent)]);
-    judged(graph, refusal, judge)
+/// What is to be said about a graph's widths, and who says it.
+pub enum Judged {
+    /// The Rust: every row is well formed, and none passes the ceiling.
+    Widths(Vec<u64>),
+    /// The Rust: this row is ill-formed, and none before it passes the ceiling.
+    Refused(u64),
+    /// The rule: this row passes the ceiling, and the Rust takes all up to it.
+    Above(u64),
 }
 
-fn judged(
-    graph: Graph,
-    refusal: Option<Answer>,
-    judge: impl FnOnce() -> Result<Vec<u64>, u64>,
-) -> (Answer, Vec<u64>) {
-    match refusal {
-        Some(refusal) => (refusal, Vec::new()),
-        None => match judge() {
-            Ok(widths) => (ACCEPTED, widths),
-            Err(row) => (answer(graph.number, row, 0), Vec::new()),
-        },
+/// The Rust about the graph at a place of the lists, held to the ceiling. Bits
+/// stand behind their graph, a source's side list behind these.
+pub fn judged(graph: Graph, lists: &Lists, place: usize) -> Judged {
+    let (rows, bits) = (&lists[place], lists[place + 1].len());
+    let ask = |rows: &[u64]| match graph.number {
+        1 => reference::source_widths(rows, bits, &lists[place + 2]),
+        _ => reference::target_widths(rows, bits),
+    };
+    let (widths, refused) = match ask(rows) {
+        Ok(widths) => (widths, None),
+        Err(row) => {
+            let before = ask(&rows[..row as usize * graph.row]);
+            let widths = before.expect("the rows before the first refused one are taken");
+            (widths, Some(row))
+        }
+    };
+    match (widths.iter().position(|&width| width > CEILING), refused) {
+        (Some(row), _) => Judged::Above(row as u64),
+        (None, Some(row)) => Judged::Refused(row),
+        (None, None) => Judged::Widths(widths),
     }
+}
+
+/// The refusal of a case because a row passes the ceiling, if that is what the
+/// scope asks for: graph by graph, the first that has a bad row.
+pub fn above(kinds: &[(&'static str, Kind)], lists: &Lists) -> Option<Answer> {
+    for (place, graph) in graphs(kinds) {
+        match judged(graph, lists, place) {
+            Judged::Widths(_) => {}
+            Judged::Refused(_) => return None,
+            Judged::Above(row) => return Some(answer(graph.number, row, 0)),
+        }
+    }
+    None
+}
+
+/// The answer about a graph that stands first in the lists, and the widths that
+/// an acceptance writes. The Rust is asked only when none of the four rules
+/// above applies.
+fn graph_answer(graph: Graph, lists: &Lists, added: Option<Answer>) -> (Answer, Vec<u64>) {
+    if let Some(refusal) = added {
+        return (refusal, Vec::new());
+    }
+    match judged(graph, lists, 0) {
+        Judged::Widths(widths) => (ACCEPTED, widths),
+        Judged::Refused(row) | Judged::Above(row) => (answer(graph.number, row, 0), Vec::new()),
+    }
+}
+
+/// The answer of source widths or target widths, and the widths that an
+/// acceptance writes. The lent list comes last.
+pub fn widths(graph: Graph, lists: &Lists) -> (Answer, Vec<u64>) {
+    let lent = &lists[lists.len() - 1];
+    let added = added(graph, &lists[0], &lists[1], &[(graph.number, lent)]);
+    graph_answer(graph, lists, added)
 }
 
 /// The first of the four rules above that applies to Check. Each is looked for
@@ -147,11 +201,11 @@ fn value_range(rows: &[u64], widths: &[u64], given: &[u64]) -> Option<Answer> {
 }
 
 /// The answer of values, and the widths that an acceptance writes. The lists
-/// are rows, bits, given words, widths and values; `judge` is as above.
-pub fn values(lists: &Lists, judge: impl FnOnce() -> Result<Vec<u64>, u64>) -> (Answer, Vec<u64>) {
+/// are rows, bits, given words, widths and values.
+pub fn values(lists: &Lists) -> (Answer, Vec<u64>) {
     let (rows, given) = (&lists[0], &lists[2]);
-    let refusal = added(TARGET, rows, &lists[1], &[(1, &lists[3]), (2, &lists[4])]);
-    let (answer, widths) = judged(TARGET, refusal, judge);
+    let added = added(TARGET, rows, &lists[1], &[(1, &lists[3]), (2, &lists[4])]);
+    let (answer, widths) = graph_answer(TARGET, lists, added);
     if answer != ACCEPTED {
         return (answer, widths);
     }

@@ -4,7 +4,22 @@
 //! word smaller.
 
 use crate::operation::{Kind, Lists, Operation, Pair};
+use crate::rules::CEILING;
 use crate::tags::names_row;
+
+/// Words that others are lowered to, the lowest first.
+const PLAIN: [u64; 10] = [
+    0,
+    1,
+    2,
+    8,
+    32,
+    CEILING,
+    CEILING + 1,
+    1 << 32,
+    1 << 63,
+    u64::MAX - 1,
+];
 
 /// A case whose two outcomes differ, while it is made small.
 struct Failing<'o> {
@@ -113,8 +128,8 @@ impl Failing<'_> {
         for place in 0..self.lists.len() {
             for word in 0..self.lists[place].len() {
                 let old = self.lists[place][word];
-                let plainer = [0, 1, 2, 8, 32, 1 << 32, 1 << 63, u64::MAX - 1, old / 2];
-                any |= plainer.into_iter().filter(|&new| new < old).any(|new| {
+                let plainer = PLAIN.into_iter().chain([old / 2]);
+                any |= plainer.filter(|&new| new < old).any(|new| {
                     let mut changed = self.lists.clone();
                     changed[place][word] = new;
                     self.take(changed)

@@ -1,7 +1,7 @@
 //! Random sources for lowerings: rich in reads and calls, with indices that are
 //! constants, variables or computed from other reads.
 
-use crate::graphs::{Builder, Style};
+use crate::graphs::{Builder, Style, HIGH};
 use crate::random::Random;
 use crate::tags::*;
 
@@ -35,7 +35,10 @@ impl Builder<'_> {
     fn core_row(&mut self) {
         match self.random.below(SELECT) {
             CONST => {
-                let width = self.random.pick(&[1, 2, 8, 8]);
+                let width = match self.style {
+                    Style::Wide if self.random.once_in(30) => self.random.pick(&HIGH),
+                    _ => self.random.pick(&[1, 2, 8, 8]),
+                };
                 self.sparse_constant(width);
             }
             tag => self.row(tag),
@@ -158,7 +161,10 @@ impl Builder<'_> {
             arguments: (0..count)
                 .map(|_| self.random.pick(&[1, 8, 8, 32, 32]))
                 .collect(),
-            result: self.random.pick(&[1, 8, 8, 32, 64]),
+            result: match self.style {
+                Style::Wide => self.width(),
+                _ => self.random.pick(&[1, 8, 8, 32, 64]),
+            },
         }
     }
 }

@@ -10,12 +10,13 @@ use crate::random::Random;
 use crate::rules::{SOURCE, TARGET};
 use crate::tags::*;
 use crate::wellformed;
+use crate::widen;
 
 const MAX: u64 = u64::MAX;
 
 /// Damages the lists once; some damages find nothing to change.
 pub fn spoil(random: &mut Random, kinds: &[(&'static str, Kind)], lists: &mut Lists) {
-    match random.below(22) {
+    match random.below(23) {
         0 | 1 => damage::damage(random, kinds, lists),
         2 => bend_map(random, lists),
         3 => alias(random, lists),
@@ -34,7 +35,8 @@ pub fn spoil(random: &mut Random, kinds: &[(&'static str, Kind)], lists: &mut Li
         18 => misfits::again(random, lists),
         19 => misfits::surplus_root(random, lists),
         20 => misfits::nest_right(random, lists),
-        _ => bend_constant(random, lists),
+        21 => bend_constant(random, lists),
+        _ => widen::widen(random, kinds, lists),
     }
 }
 
@@ -192,15 +194,6 @@ fn bend_source_roots(random: &mut Random, lists: &mut Lists) {
     }
 }
 
-/// The widths of a graph that is well formed.
-fn widths(lists: &Lists, graph: usize) -> Option<Vec<u64>> {
-    let (row, side): (usize, &[u64]) = match graph {
-        at::SOURCE => (SOURCE.row, &lists[at::SIDE]),
-        _ => (TARGET.row, &[]),
-    };
-    wellformed::widths(&lists[graph], row, lists[graph + 1].len(), side).ok()
-}
-
 /// A row before `end` of the same width as this one.
 fn alike(random: &mut Random, widths: &[u64], row: u64, end: usize) -> Option<u64> {
     let width = *widths.get(row as usize)?;
@@ -212,7 +205,8 @@ fn alike(random: &mut Random, widths: &[u64], row: u64, end: usize) -> Option<u6
 
 /// An operand replaced by another row of its width.
 fn other_operand(random: &mut Random, lists: &mut Lists, graph: usize, size: usize) {
-    let Some(widths) = widths(lists, graph).filter(|widths| !widths.is_empty()) else {
+    let widths = wellformed::widths(lists, graph, size);
+    let Some(widths) = widths.filter(|widths| !widths.is_empty()) else {
         return;
     };
     for _ in 0..8 {
@@ -276,9 +270,12 @@ fn other_tag(random: &mut Random, lists: &mut Lists) {
 /// A word of the side list or of the argument list replaced by another row of
 /// its width, by any row or by a word near it; or two words exchanged.
 fn bend_side(random: &mut Random, lists: &mut Lists) {
-    let (graph, list) = random.pick(&[(at::SOURCE, at::SIDE), (at::TARGET, at::ARGUMENTS)]);
-    let rows = rows(lists, graph);
-    let widths = widths(lists, graph).unwrap_or_default();
+    let (graph, size, list) = random.pick(&[
+        (at::SOURCE, SOURCE.row, at::SIDE),
+        (at::TARGET, TARGET.row, at::ARGUMENTS),
+    ]);
+    let rows = lists[graph].len() / size;
+    let widths = wellformed::widths(lists, graph, size).unwrap_or_default();
     if lists[list].is_empty() {
         return;
     }

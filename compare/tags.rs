@@ -35,6 +35,9 @@ pub const SREM: u64 = 36;
 pub const SELECT: u64 = 37;
 pub const CALL: u64 = 38;
 
+/// The tags of rows that can be wider than every row before them.
+pub const WIDENING: [u64; 6] = [VAR, CONST, CONCAT, ZERO_EXT, SIGN_EXT, CALL];
+
 /// Does this field, counted from 1, name an earlier row?
 pub fn names_row(tag: u64, field: usize) -> bool {
     match tag {

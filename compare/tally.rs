@@ -1,6 +1,7 @@
-//! What a run has met so far: answers, tags, features, edge words. It prints the
-//! counts and says whether anything that must come is missing.
+//! What a run has met so far: answers, tags, features, edge words, rows at the
+//! ceiling. It prints the counts and says whether anything that must come is missing.
 
+use crate::ceilingcounts::CeilingCounts;
 use crate::operation::{Feature, Kind, Lists, Operation};
 use crate::ours::Answer;
 use crate::rules::ACCEPTED;
@@ -43,6 +44,7 @@ struct Counts {
     refused: [u64; 64],
     /// Cases that the second reference judged, and their rows.
     second: [u64; 2],
+    ceiling: CeilingCounts,
 }
 
 impl Tally {
@@ -67,6 +69,7 @@ impl Tally {
         counts.answers[answer.number as usize] += 1;
         counts.count_parts(answer);
         counts.count_high(lists);
+        counts.ceiling.count(lists, answer);
         if let (Kind::Rows(row), true) = (operation.lists()[0].1, operation.tags() > 0) {
             counts.count_tags(row, &lists[0], answer);
         }
@@ -108,6 +111,7 @@ impl Counts {
             taken: [0; 64],
             refused: [0; 64],
             second: [0; 2],
+            ceiling: CeilingCounts::new(operation),
         }
     }
 
@@ -152,6 +156,7 @@ impl Counts {
         for ((number, part), count) in self.operation.parts().iter().zip(&self.parts) {
             println!("  answer {number:2} for {part}: {count:8}");
         }
+        self.ceiling.print();
         let least = |counts: &[u64]| counts.iter().min().copied().unwrap_or(0);
         let high = self.high.iter().flatten().copied().collect::<Vec<u64>>();
         println!(
@@ -195,6 +200,9 @@ impl Counts {
         }
         for (count, (number, part)) in self.parts.iter().zip(self.operation.parts()) {
             due(*count, format!("the answer {number} for {part}"));
+        }
+        for (count, what) in self.ceiling.due() {
+            due(count, what);
         }
         for tag in 0..self.operation.tags() {
             due(self.taken[tag], format!("tag {tag}, taken,"));

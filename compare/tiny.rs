@@ -1,15 +1,17 @@
 //! Tiny graphs, all of them: one row over no, one or two variables, its fields
-//! taken from a few edge values in every combination. Also tiny root lists.
-//! grid.rs has the operators on all operands of small widths.
+//! taken from a few edge values in every combination; likewise over variables
+//! near the ceiling. Also tiny root lists. grid.rs has the operators on all
+//! operands of small widths.
 
 use crate::operation::{Kind, Lists, Operation};
 use crate::roots::ROOTS;
-use crate::rules::{Graph, SOURCE, TARGET};
-use crate::tags::{CALL, CONST, SELECT, TAGS};
+use crate::rules::{Graph, CEILING, SOURCE, TARGET};
+use crate::tags::*;
 use crate::values::VALUES;
 use crate::widths::{SOURCE_WIDTHS, TARGET_WIDTHS};
 
 const MAX: u64 = u64::MAX;
+const TOP: u64 = CEILING;
 
 /// What is done with each case; false stops the walk.
 pub type Visit<'v> = dyn FnMut(&'static dyn Operation, &Lists) -> bool + 'v;
@@ -42,13 +44,24 @@ fn lists_up_to(length: usize, words: &[u64]) -> Vec<Vec<u64>> {
     (0..=length).flat_map(|n| lists_of(n, words)).collect()
 }
 
+/// The edge values, those of widths last.
+const EDGES: [u64; 12] = [0, 1, 2, 3, 7, 8, 32, MAX - 1, MAX, TOP - 1, TOP, TOP + 1];
+
+/// The edge values that a tag's fields take.
+fn edges(tag: u64) -> &'static [u64] {
+    match tag {
+        VAR | ZERO_EXT | SIGN_EXT => &EDGES,
+        _ => &EDGES[..9],
+    }
+}
+
 /// The last row's tag and fields in every combination. A used field takes the
 /// edge values; the unused ones are 0, and once each 1 or MAX.
 fn last_rows(graph: Graph) -> Vec<Vec<u64>> {
     let mut rows = Vec::new();
     for tag in 0..graph.tags.min(SELECT) {
         let used = TAGS[tag as usize].1;
-        for fields in lists_of(used, &[0, 1, 2, 3, 7, 8, 32, MAX - 1, MAX]) {
+        for fields in lists_of(used, edges(tag)) {
             rows.push(padded(tag, &fields, graph));
         }
         for (unused, word) in (used + 1..graph.row).flat_map(|k| [(k, 1), (k, MAX)]) {
@@ -71,11 +84,29 @@ fn padded(tag: u64, fields: &[u64], graph: Graph) -> Vec<u64> {
     row
 }
 
+/// Last rows over variables near the ceiling: those that add to their widths,
+/// and Extracts.
+fn high_rows(graph: Graph) -> Vec<Vec<u64>> {
+    let amounts = [0, 1, 2, TOP - 1, TOP, TOP + 1, MAX - TOP, MAX - 1, MAX];
+    let mut rows = Vec::new();
+    for operand in [0, 1] {
+        rows.extend([0, 1].map(|other| padded(CONCAT, &[operand, other], graph)));
+        for tag in [ZERO_EXT, SIGN_EXT] {
+            rows.extend(amounts.map(|by| padded(tag, &[operand, by], graph)));
+        }
+    }
+    for ends in lists_of(2, &[0, TOP - 1, TOP]) {
+        rows.push(padded(EXTRACT, &[ends[0], ends[1], 0], graph));
+    }
+    rows
+}
+
 /// Select and Call rows: first field 3, the others in every combination.
 fn chain_rows() -> Vec<Vec<u64>> {
+    let seconds = [[0, 1, 2, 32, MAX], [0, 1, TOP, TOP + 1, MAX]];
     let mut rows = Vec::new();
-    for tag in [SELECT, CALL] {
-        for second in [0, 1, 2, 32, MAX] {
+    for (tag, seconds) in [SELECT, CALL].into_iter().zip(seconds) {
+        for second in seconds {
             for ends in lists_of(2, &[0, 1, 2, 3, MAX]) {
                 rows.push(vec![tag, 3, second, ends[0], ends[1]]);
             }
@@ -85,32 +116,39 @@ fn chain_rows() -> Vec<Vec<u64>> {
 }
 
 fn graphs(graph: Graph, operation: &'static dyn Operation, visit: &mut Visit) -> bool {
-    let (last, chains) = (last_rows(graph), chain_rows());
-    let sides = lists_up_to(3, &[0, 1, MAX]);
-    for earlier in lists_up_to(2, &[1, 8, 32]) {
-        let before: Vec<u64> = earlier
-            .iter()
-            .flat_map(|&w| padded(0, &[w], graph))
-            .collect();
-        for row in &last {
+    let low = vec![1, 8, 32];
+    let high = vec![1, TOP / 2, TOP / 2 + 1, TOP - 1, TOP];
+    let mut families = vec![
+        (low.clone(), last_rows(graph), vec![vec![]]),
+        (high, high_rows(graph), vec![vec![]]),
+    ];
+    if graph.tags > SELECT {
+        families.push((low, chain_rows(), lists_up_to(3, &[0, 1, MAX])));
+    }
+    let mut all = families.iter();
+    all.all(|(widths, last, sides)| over(widths, last, sides, graph, operation, visit))
+}
+
+/// Each of these rows over no, one or two variables of these widths, with each
+/// of these side lists; a Const over up to three bits.
+fn over(
+    widths: &[u64],
+    last: &[Vec<u64>],
+    sides: &[Vec<u64>],
+    graph: Graph,
+    operation: &'static dyn Operation,
+    visit: &mut Visit,
+) -> bool {
+    for earlier in lists_up_to(2, widths) {
+        let before = earlier.iter().flat_map(|&w| padded(VAR, &[w], graph));
+        let before: Vec<u64> = before.collect();
+        for (row, side) in last.iter().flat_map(|r| sides.iter().map(move |s| (r, s))) {
             let most = if row[0] == CONST { 3 } else { 0 };
             for bits in 0..=most {
                 let rows = [&before[..], row].concat();
-                if !one(graph, operation, rows, vec![1; bits], &[], visit) {
+                if !one(graph, operation, rows, vec![1; bits], side, visit) {
                     return false;
                 }
-            }
-        }
-        if graph.tags <= SELECT {
-            continue;
-        }
-        for (row, side) in chains
-            .iter()
-            .flat_map(|r| sides.iter().map(move |s| (r, s)))
-        {
-            let rows = [&before[..], row].concat();
-            if !one(graph, operation, rows, vec![], side, visit) {
-                return false;
             }
         }
     }

@@ -1,14 +1,16 @@
 //! Values as an operation. What is expected comes from plain.rs; the published
 //! gates are its second reference.
 
+use crate::ceilingcases;
 use crate::damage;
 use crate::operands::{self, highest};
 use crate::operation::{Kind, Lists, Operation, Outcome};
-use crate::ours;
+use crate::ours::{self, Answer};
 use crate::random::Random;
 use crate::reference;
 use crate::rules::{self, ACCEPTED, TARGET};
 use crate::tags::VAR;
+use crate::widen;
 
 pub struct Values;
 
@@ -46,6 +48,10 @@ impl Operation for Values {
         TARGET.tags as usize
     }
 
+    fn known(&self) -> Vec<(Lists, Answer)> {
+        ceilingcases::values()
+    }
+
     /// A well-formed graph with fitting words, then none to three damages.
     fn generate(&self, random: &mut Random, rows: usize) -> Lists {
         let mut lists = operands::well_formed(random, rows);
@@ -55,10 +61,10 @@ impl Operation for Values {
             lists.push(random.junk(rows + spare));
         }
         for _ in 0..random.pick(&[0, 0, 0, 0, 0, 1, 1, 1, 2, 3]) {
-            if random.once_in(4) {
-                operands::overfill(random, &mut lists);
-            } else {
-                damage::damage(random, self.lists(), &mut lists);
+            match random.below(8) {
+                0 | 1 => operands::overfill(random, &mut lists),
+                2 => widen::widen(random, self.lists(), &mut lists),
+                _ => damage::damage(random, self.lists(), &mut lists),
             }
         }
         lists
@@ -109,8 +115,7 @@ impl Operation for Values {
 /// The outcome where acceptance writes the values that `meaning` gives from
 /// the widths.
 fn outcome(lists: &Lists, meaning: impl FnOnce(&[u64]) -> Vec<u64>) -> Outcome {
-    let judge = || reference::target_widths(&lists[0], lists[1].len());
-    let (answer, widths) = rules::values(lists, judge);
+    let (answer, widths) = rules::values(lists);
     let values = if answer == ACCEPTED {
         meaning(&widths)
     } else {

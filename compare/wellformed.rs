@@ -1,7 +1,11 @@
 //! Well-formedness after the scope's text, without the published Rust: the width
 //! of each row, if it is well formed.
 
+use crate::operation::Lists;
 use crate::tags::*;
+
+/// No row has more bits.
+const MOST: u64 = 4_096;
 
 /// Tag and four fields.
 pub type Row = [u64; 5];
@@ -27,23 +31,27 @@ pub fn stretch(list: &[u64], start: u64, count: u64) -> Option<&[u64]> {
     list.get(usize::try_from(start).ok()?..end)
 }
 
-/// The widths of a graph's rows, or the first row that is not well formed.
-pub fn widths(graph: &[u64], size: usize, bits: usize, side: &[u64]) -> Result<Vec<u64>, u64> {
-    row_widths(&rows(graph, size), bits, side)
+/// The widths of the graph at a place of the lists, its bits and a source's side
+/// list behind it, if it is well formed.
+pub fn widths(lists: &Lists, place: usize, size: usize) -> Option<Vec<u64>> {
+    let side: &[u64] = if size == 5 { &lists[place + 2] } else { &[] };
+    row_widths(&rows(&lists[place], size), lists[place + 1].len(), side).ok()
 }
 
+/// The widths of a graph's rows, or the first row that is not well formed.
 pub fn row_widths(rows: &[Row], bits: usize, side: &[u64]) -> Result<Vec<u64>, u64> {
     let mut widths = Vec::new();
     for &row in rows {
         match width(row, &widths, bits as u64, side) {
-            Some(width) => widths.push(width),
-            None => return Err(widths.len() as u64),
+            Some(width) if width <= MOST => widths.push(width),
+            _ => return Err(widths.len() as u64),
         }
     }
     Ok(widths)
 }
 
-/// The width of a row over earlier rows of these widths, if it is well formed.
+/// The width of a row over earlier rows of these widths, if it is well formed;
+/// it may be too wide.
 fn width([tag, a, b, c, d]: Row, widths: &[u64], bits: u64, side: &[u64]) -> Option<u64> {
     let of = |row: u64| at(widths, row);
     let alike = |a: u64, b: u64| of(a).filter(|&w| of(b) == Some(w));

@@ -1,12 +1,13 @@
 //! Source widths and target widths as operations.
 
+use crate::ceilingcases;
 use crate::damage;
 use crate::graphs;
 use crate::operation::{Kind, Lists, Operation, Outcome};
-use crate::ours;
+use crate::ours::{self, Answer};
 use crate::random::Random;
-use crate::reference;
 use crate::rules::{self, Graph, SOURCE, TARGET};
+use crate::widen;
 
 pub struct Widths(Graph);
 
@@ -64,13 +65,25 @@ impl Operation for Widths {
         self.0.tags as usize
     }
 
+    fn known(&self) -> Vec<(Lists, Answer)> {
+        if self.is_source() {
+            ceilingcases::sources()
+        } else {
+            ceilingcases::targets()
+        }
+    }
+
     /// A well-formed graph, then none to three damages.
     fn generate(&self, random: &mut Random, rows: usize) -> Lists {
         let mut lists = graphs::well_formed(random, self.0, rows);
         let spare = random.pick(&[0, 0, 0, 0, 1, 2, 5]);
         lists.push(random.junk(lists[0].len() / self.0.row + spare));
         for _ in 0..random.pick(&[0, 0, 0, 1, 1, 1, 1, 1, 2, 3]) {
-            damage::damage(random, self.lists(), &mut lists);
+            if random.once_in(6) {
+                widen::widen(random, self.lists(), &mut lists);
+            } else {
+                damage::damage(random, self.lists(), &mut lists);
+            }
         }
         lists
     }
@@ -97,22 +110,13 @@ impl Operation for Widths {
     }
 
     fn expected(&self, lists: &Lists) -> Outcome {
-        let (rows, bits) = (&lists[0], &lists[1]);
-        let lent = &lists[lists.len() - 1];
-        let (answer, written) = rules::widths(self.0, rows, bits, lent, || {
-            if self.is_source() {
-                reference::source_widths(rows, bits.len(), &lists[2])
-            } else {
-                reference::target_widths(rows, bits.len())
-            }
-        });
-        let after = rules::lent_after(answer, lent, &written);
-        let mut lists = lists.clone();
-        lists.pop();
-        lists.push(after);
+        let (answer, written) = rules::widths(self.0, lists);
+        let mut after = lists.clone();
+        let lent = after.pop().expect("the widths come last");
+        after.push(rules::lent_after(answer, &lent, &written));
         Outcome {
             answer,
-            lists,
+            lists: after,
             strayed: false,
         }
     }
