@@ -13,6 +13,9 @@ use std::fmt;
 /// In a map: no image.
 pub const MAX: u64 = u64::MAX;
 
+/// The most bits that a row may have: every width that is left lies between 1 and this.
+pub const CEILING: u64 = 4096;
+
 /// A number with place and detail; 0 is acceptance.
 #[repr(C)]
 #[derive(Clone, Copy, PartialEq, Eq, Debug)]
@@ -239,6 +242,9 @@ mod tests {
         assert_eq!(target, [32, 8, 1]);
         assert_eq!(target_widths(&TARGET, &[2], &mut target), answer(17, 0, 2));
         assert_eq!(target, [0, 0, 0]);
+        assert_eq!(target_widths(&[0, CEILING, 0, 0], &[], &mut target), answer(0, 0, 0));
+        assert_eq!(target, [CEILING, 0, 0]);
+        assert_eq!(target_widths(&[0, CEILING + 1, 0, 0], &[], &mut target), answer(2, 0, 0));
         assert_eq!(roots(&source, &[2]), answer(0, 0, 0));
         assert_eq!(roots(&source, &[2, 1]), answer(19, 1, 0));
     }

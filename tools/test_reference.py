@@ -93,7 +93,8 @@ class Tags(unittest.TestCase):
         """One number in the definition, the code, the tools and each rule that names it."""
         defined = re.search(r"(?m)^ceiling = (\d+)$", content("crates", "rules", "specs", "Rule.antt"))
         coded = re.search(r"(?m)^const CEILING: u64 = (\d+);$", content("crates", "wf", "src", "lib.rt"))
-        self.assertEqual([int(found.group(1)) for found in (defined, coded)], [CEILING] * 2)
+        shown = re.search(r"(?m)^pub const CEILING: u64 = (\d+);$", content("examples", "gilfrunt.rs"))
+        self.assertEqual([int(found.group(1)) for found in (defined, coded, shown)], [CEILING] * 3)
         asked = {tag.name for tag in TAGS if f"{CEILING:,}" in tag.shape.needs}
         self.assertEqual(asked, {"Var", "Const", "Concat", "ZeroExt", "SignExt", "Call"})
         words = [0, CEILING, 0, 0, 0, 0, CEILING + 1, 0, 0, 0, 17, 0, 1, 0, 0]
