@@ -132,7 +132,9 @@ same-length-3 : tie.Need-same-length-3 Inv-loop μ-loop
 same-length-3 c = search needs
 
 returns-3 : tie.Need-returns-3 Inv-loop μ-loop
-returns-3 c = stops (c .before .before) (capped-over _ (c .if3 .taken))
+returns-3 c =
+    let told = c .before .before in
+    stops told (capped-over (told .line-width .result) (omega (arith, c .if3 .taken)))
 
 mul-ws : tie.Need-mul-ws Inv-loop μ-loop
 mul-ws c = search needs
@@ -151,7 +153,7 @@ loop-again c =
     let told = c .before .before in
     let s = entry told .args in
     let l = turn told .loop in
-    let width = sym (capped-in _ (c .if3 .left)) ∙ width-is told in
+    let width = sym (capped-in (told .line-width .result) (omega (arith, c .if3 .left))) ∙ width-is told in
     let on = ne-eqb _ _ (λ z. c .before .if2 .left (width ∙ z)) in (
       omega arith,
       simp length-set (l .inv .1),
