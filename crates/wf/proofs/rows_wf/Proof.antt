@@ -134,7 +134,7 @@ same-length-3 c = search needs
 returns-3 : tie.Need-returns-3 Inv-loop μ-loop
 returns-3 c =
     let told = c .before .before in
-    stops told (capped-over (told .line-width .result) (omega (arith, c .if3 .taken)))
+    stops told (capped-over (told .line-width .result) (omega arith))
 
 mul-ws : tie.Need-mul-ws Inv-loop μ-loop
 mul-ws c = search needs
@@ -153,7 +153,7 @@ loop-again c =
     let told = c .before .before in
     let s = entry told .args in
     let l = turn told .loop in
-    let width = sym (capped-in (told .line-width .result) (omega (arith, c .if3 .left))) ∙ width-is told in
+    let width = sym (capped-in (told .line-width .result) (omega arith)) ∙ width-is told in
     let on = ne-eqb _ _ (λ z. c .before .if2 .left (width ∙ z)) in (
       omega arith,
       simp length-set (l .inv .1),
