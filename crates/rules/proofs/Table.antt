@@ -49,5 +49,6 @@ module _ (nbits : ℕ) (side ws : List ℕ) (a b c d : ℕ) where
       → capped (lineWidth nbits side ws (lineAt t) a b c d) ≡ cond (fieldsGood (fieldCount t) b c d) (nodeWidth nbits side ws (nodeFrom t a b c d)) 0
   unfolding by-line by-rule
   line-rule t h =
+      let node = nodeFrom t a b c d in
       ap capped (along-same by-line by-rule (lineAt 39) table whole t h)
-      ∙ capped-tested (fieldsGood (fieldCount t) b c d) (earlier (operands (nodeFrom t a b c d)) (length ws)) (rule nbits side ws (nodeFrom t a b c d))
+      ∙ capped-tested (fieldsGood (fieldCount t) b c d) (earlier (operands node) (length ws)) (rule nbits side ws node)

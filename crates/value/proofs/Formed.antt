@@ -111,7 +111,8 @@ module _ (bits side : List ℕ) (width : ℕ → ℕ) (look : ℕ → Val) (i : 
       go false e =
           let no : tagOf node ≡ tVar → ⊥ = eqb-false (tagOf node) tVar e in
           let w = core-width node g c no r in
-          (w, operate-fits (tagOf node) (omega (arith, no)) c (parameters bits node) _ (fit-map look fits (operands node)) (const-fits node clean) (rw w (r .is-width .positive)))
+          let above : 0 < wid (coreValue bits look node) = rw w (r .is-width .positive) in
+          (w, operate-fits (tagOf node) (omega (arith, no)) c (parameters bits node) _ (fit-map look fits (operands node)) (const-fits node clean) above)
 
 module _ (bits side g ws : List ℕ) (given : ℕ → ℕ) (formed : WellFormed Target (length bits) side g ws)
     (clean : (k : ℕ) → getD bits k 0 < 2) (core : (i : ℕ) → i < rowCount Target g → tagOf (nodeOf (rowAt Target g i)) < 37)

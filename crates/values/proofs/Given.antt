@@ -7,7 +7,7 @@ use native.Mathlib.Omega.{arith}
 use borrow.Author.Tests.{eqb-true, eq-eqb, ltb-true, ltb-false, not-false}
 use lib.Dec.{eqb, ltb}
 use lib.ListN.{length, getD}
-use Rattle.answers.specs.declared.Answer.the-variants.{Accepted, Core, BadRow, BadBit, TooWide, ValueCount, ValueRange}
+use Rattle.answers.specs.declared.Answer.the-variants.{Accepted, TooWide, ValueCount, ValueRange}
 use Rattle.answers.specs.Answer.{isAccepted}
 use Rattle.evaluate.specs.Ready.{Evaluable}
 use Rattle.lists.proofs.Choice.{no-way}
@@ -25,16 +25,10 @@ use Rattle.wf.specs.Widths.{illRow, widths, rowWidth}
 use Rattle.wf.specs.Promise.{AreWidths}
 use Rattle.wf.proofs.Promise.{well-formed, are-widths}
 use Rattle.refusals.specs.Rows.{rowsAnswer}
+use Rattle.widths.proofs.Widths.{rows-passed}
 use Rattle.inputs.specs.Inputs.{rowWide, wideRow, wordBad, badWord, givenAnswer}
 
 -- an accepted answer failed each of its tests
-pub rows-tests : (p q r : Bool) (a b d row : ℕ) → isAccepted (cond p (BadRow a d) (cond q (BadBit b d) (cond r (Core row) Accepted))) ≡ true
-    → (p ≡ false) × (q ≡ false) × (r ≡ false)
-rows-tests true q r a b d row e = no-way (sym e)
-rows-tests false true r a b d row e = no-way (sym e)
-rows-tests false false true a b d row e = no-way (sym e)
-rows-tests false false false a b d row e = (refl, refl, refl)
-
 pub given-tests : (p q r : Bool) (a b d f : ℕ) → isAccepted (cond p (TooWide a 0) (cond q (cond r (ValueRange b) Accepted) (ValueCount d f))) ≡ true
     → (p ≡ false) × (q ≡ true) × (r ≡ false)
 given-tests true q r a b d f e = no-way (sym e)
@@ -44,10 +38,8 @@ given-tests false false r a b d f e = no-way (sym e)
 
 module _ (g bits given : List ℕ) (rows : isAccepted (rowsAnswer Target g bits (illRow Target (length bits) [] g)) ≡ true)
     (words : isAccepted (givenAnswer g (widths Target (length bits) [] g) given) ≡ true) where
-  rows-passed : (rowCount Target g ≤ badRow Target g) × (length bits ≤ badBit bits) × (rowCount Target g ≤ illRow Target (length bits) [] g)
-  rows-passed =
-      let (p, q, r) = rows-tests (ltb (badRow Target g) (rowCount Target g)) (ltb (badBit bits) (length bits)) (ltb (illRow Target (length bits) [] g) (rowCount Target g)) (badRow Target g) (badBit bits) 2 (illRow Target (length bits) [] g) rows in
-      (ltb-false _ _ p, ltb-false _ _ q, ltb-false _ _ r)
+  passed : (rowCount Target g ≤ badRow Target g) × (length bits ≤ badBit bits) × (rowCount Target g ≤ illRow Target (length bits) [] g)
+  passed = rows-passed Target g bits _ rows
 
   words-passed : (rowCount Target g ≤ wideRow (widths Target (length bits) [] g) (rowCount Target g)) × (length given ≡ rowCount Target g) × (rowCount Target g ≤ badWord g given)
   words-passed =
@@ -59,7 +51,7 @@ module _ (g bits given : List ℕ) (rows : isAccepted (rowsAnswer Target g bits 
 
   -- "Every width handed upward is therefore between 1 and 4,096" (02, 2.8)
   pub handed : AreWidths (widths Target (length bits) [] g)
-  handed = are-widths Target (length bits) [] g (rows-passed .2)
+  handed = are-widths Target (length bits) [] g (passed .2)
 
   narrow : (a : ℕ) → getD (widths Target (length bits) [] g) a 0 ≤ 64
   narrow =
@@ -75,10 +67,10 @@ module _ (g bits given : List ℕ) (rows : isAccepted (rowsAnswer Target g bits 
   pub evaluable : Evaluable g bits given (widths Target (length bits) [] g)
   evaluable =
       record {
-        formed = well-formed Target (length bits) [] g (rows-passed .2);
+        formed = well-formed Target (length bits) [] g (passed .2);
         narrow = narrow;
-        clean = clean bits (rows-passed .1);
-        core = core-rows g (rows-passed .0);
+        clean = clean bits (passed .1);
+        core = core-rows g (passed .0);
         assigns = fit;
         widths = width-count;
         words = words-passed .1;

@@ -1,14 +1,13 @@
 -- What the widths operation and the evaluation leave, for the operation above them. Assumes nothing.
 use Prim.Native.Nat.{ℕ, _-_, _≤_}
 use mathlib.Core.Path.{_≡_, ap, _∙_}
-use mathlib.Core.Bool.{Bool, true, false, cond}
+use mathlib.Core.Bool.{true, false}
 use mathlib.Core.List.{List, [], _∷_, _++_}
 use borrow.Author.Tests.{le-ltb}
 use lib.Dec.{ltb}
 use lib.ListN.{length, getD, replicate, take, drop}
 use Rattle.value.specs.Graph.{numbersTo}
 use Rattle.answers.specs.declared.Answer.{Answer}
-use Rattle.answers.specs.declared.Answer.the-variants.{Accepted, Core, BadRow, BadBit}
 use Rattle.answers.specs.Answer.{lent, isAccepted}
 use Rattle.answers.specs.Result.{Result, result}
 use Rattle.evaluate.proofs.Rows.{numbers-front}
@@ -19,12 +18,8 @@ use Rattle.encoding.specs.Encoding.{badRow, badBit}
 use Rattle.wf.specs.Widths.{illRow, widths, rowWidth}
 use Rattle.refusals.specs.Rows.{rowsAnswer}
 use Rattle.widths.specs.Widths.{targetWidths}
-use Rattle.values.proofs.Given.{rows-tests}
+use Rattle.widths.proofs.Widths.{rows-accepted}
 use Rattle.values.proofs.Outcome.{rows-zero}
-
-rows-yes : (p q r : Bool) (a b d row : ℕ) → isAccepted (cond p (BadRow a d) (cond q (BadBit b d) (cond r (Core row) Accepted))) ≡ true
-    → cond p (BadRow a d) (cond q (BadBit b d) (cond r (Core row) Accepted)) ≡ Accepted
-rows-yes p q r a b d row e = let (x, y, z) = rows-tests p q r a b d row e in rw (x, y, z)
 
 -- the widths operation on a whole target with room: its answer and its list
 module _ (g bits ws : List ℕ) (a : Answer) (l : List ℕ) (done : result a (l ∷ []) ≡ targetWidths g bits ws) (whole : ragged Target g ≡ false)
@@ -46,7 +41,7 @@ module _ (g bits ws : List ℕ) (a : Answer) (l : List ℕ) (done : result a (l 
   widths-accepted e =
       widths-list
       ∙ ap (λ (x : Answer). lent x ws (widths Target (length bits) [] g))
-      (rows-yes (ltb (badRow Target g) (rowCount Target g)) (ltb (badBit bits) (length bits)) (ltb (illRow Target (length bits) [] g) (rowCount Target g)) (badRow Target g) (badBit bits) 2 (illRow Target (length bits) [] g) e)
+      (rows-accepted Target g bits _ e)
       ∙ ap (λ (n : ℕ). widths Target (length bits) [] g ++ replicate (length ws - n) 0) (build-length (rowWidth Target (length bits) [] g) (rowCount Target g))
 
   pub widths-front : isAccepted (rowsAnswer Target g bits (illRow Target (length bits) [] g)) ≡ true

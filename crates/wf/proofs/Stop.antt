@@ -29,12 +29,15 @@ module _ (graph : Graph) (nbits : ℕ) (side g : List ℕ) where
   passed : (i : ℕ) → rowStops graph nbits side g i ≡ false → (rowBad graph g i ≡ false) × (rowIll graph nbits side g i ≡ false)
   passed i e = both-pass (rowGood graph (rowAt graph g i)) (rowWidth graph nbits side g i (widthsTo graph nbits side g i)) e
 
+  -- the width that the line of a row's tag gives it
+  abbrev by-line : List ℕ → List ℕ → List Line → ℕ
+  by-line ws r lines = lineWidth nbits side ws (getD lines (getD r 0 0) (line 0 0 0)) (getD r 1 0) (getD r 2 0) (getD r 3 0) (getD r 4 0)
+
   -- a row whose tag there is: its line gives the width of a good row, and none to a bad one; what passes the ceiling is none
   pub line-good : (i : ℕ) (ws : List ℕ) (lines : List Line) (r : List ℕ) → lines ≡ table → r ≡ rowAt graph g i → getD r 0 0 < tagCount graph
-      → capped (lineWidth nbits side ws (getD lines (getD r 0 0) (line 0 0 0)) (getD r 1 0) (getD r 2 0) (getD r 3 0) (getD r 4 0))
-      ≡ goodWidth graph nbits side g i ws
+      → capped (by-line ws r lines) ≡ goodWidth graph nbits side g i ws
   line-good i ws lines r whole e h =
-      ap (λ (ls : List Line). capped (lineWidth nbits side ws (getD ls (getD r 0 0) (line 0 0 0)) (getD r 1 0) (getD r 2 0) (getD r 3 0) (getD r 4 0))) whole
+      ap (λ (ls : List Line). capped (by-line ws r ls)) whole
       ∙ line-rule nbits side ws (getD r 1 0) (getD r 2 0) (getD r 3 0) (getD r 4 0) (getD r 0 0) (omega (arith, h, tags-in graph))
       ∙ sym (rw (lt-ltb (getD r 0 0) (tagCount graph) h))
       ∙ ap (λ (x : List ℕ). cond (rowGood graph x) (nodeWidth nbits side ws (nodeOf x)) 0) e

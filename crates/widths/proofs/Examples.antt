@@ -98,7 +98,8 @@ unfolding first
 bad-bit = refl
 
 -- "A row whose width would pass 4,096 is ill-formed, as 1 in a source and 2 in a target" (02, 2.8): 4,096 passes, from each tag that can pass it
-at-ceiling : sourceWidths (s5 0 4096 0 0 0 (s5 0 2048 0 0 0 (s5 15 1 1 0 0 (s5 16 1 2048 0 0 (s5 17 0 0 0 0 (s5 38 3 4096 max 0 [])))))) [] [] (junk 6)
+at-ceiling : sourceWidths
+    (s5 0 4096 0 0 0 (s5 0 2048 0 0 0 (s5 15 1 1 0 0 (s5 16 1 2048 0 0 (s5 17 0 0 0 0 (s5 38 3 4096 max 0 [])))))) [] [] (junk 6)
     ≡ result Accepted ((4096 ∷ 2048 ∷ 4096 ∷ 4096 ∷ 4096 ∷ 4096 ∷ []) ∷ [])
 unfolding first build
 at-ceiling = refl

@@ -100,13 +100,22 @@ ill-refuses : (graph : Graph) (row : ℕ) → isAccepted (illFormed graph row) �
 ill-refuses Source row = refl
 ill-refuses Target row = refl
 
+-- what 16, 17 and 1 or 2 let pass
+module _ (graph : Graph) (g bits : List ℕ) (ill : ℕ) (e : isAccepted (rowsAnswer graph g bits ill) ≡ true) where
+  pub rows-passed : (rowCount graph g ≤ badRow graph g) × (length bits ≤ badBit bits) × (rowCount graph g ≤ ill)
+  rows-passed =
+      let (rows, f) = unmet (ltb (badRow graph g) (rowCount graph g)) _ _ refl e in
+      let (clean, h) = unmet (ltb (badBit bits) (length bits)) _ _ refl f in
+      let (formed, _) = unmet (ltb ill (rowCount graph g)) _ _ (ill-refuses graph ill) h in
+      (ltb-false _ _ rows, ltb-false _ _ clean, ltb-false _ _ formed)
+
+  pub rows-accepted : rowsAnswer graph g bits ill ≡ Accepted
+  rows-accepted = let (rows, clean, formed) = rows-passed in rw (le-ltb _ _ rows, le-ltb _ _ clean, le-ltb _ _ formed)
+
 -- "Every width handed upward is therefore between 1 and 4,096" (02, 2.8): by an operation that accepts
 pub handed : (graph : Graph) (g bits side : List ℕ) (room : ℕ) → isAccepted (widthsAnswer graph g bits side room) ≡ true
     → AreWidths (widths graph (length bits) side g)
 handed graph g bits side room e =
     let whole = unmet (ragged graph g) _ _ refl e .1 in
     let roomy = unmet (ltb room (rowCount graph g)) _ _ refl whole .1 in
-    let rows = unmet (ltb (badRow graph g) (rowCount graph g)) _ _ refl roomy .1 in
-    let clean = unmet (ltb (badBit bits) (length bits)) _ _ refl rows .1 in
-    let formed = unmet (ltb (illRow graph (length bits) side g) (rowCount graph g)) _ _ (ill-refuses graph _) clean .0 in
-    are-widths graph (length bits) side g (ltb-false _ _ formed)
+    are-widths graph (length bits) side g (rows-passed graph g bits _ roomy .2)

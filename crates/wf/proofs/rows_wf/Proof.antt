@@ -99,7 +99,8 @@ entry c = turn c .before .before .before .before .before .before
 width-is : (c : tie.After-line-width Inv-loop μ-loop)
     → let s = entry c .args in
     let i = turn c .loop .i in
-    capped (c .line-width .result) ≡ goodWidth (s .graph) (s .nbits) (s .side .now) (s .g .now) i (widthsTo (s .graph) (s .nbits) (s .side .now) (s .g .now) i)
+    capped (c .line-width .result)
+    ≡ goodWidth (s .graph) (s .nbits) (s .side .now) (s .g .now) i (widthsTo (s .graph) (s .nbits) (s .side .now) (s .g .now) i)
 width-is c =
     let s = entry c .args in
     let l = turn c .loop in
