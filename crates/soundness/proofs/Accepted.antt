@@ -1,23 +1,30 @@
 -- What a lowering that has passed Check's tests gives: the facts about rows, entries and roots, and the two directions. Assumes nothing.
-use Prim.Native.Nat.{ℕ, _≤_}
+use Prim.Native.Nat.{ℕ, _<_, _≤_, _^_}
+use mathlib.Core.Path.{_≡_, refl, _∙_}
+use mathlib.Core.Bool.{Bool, true, false, cond}
+use mathlib.Core.List.{List}
 use native.Mathlib.Omega.{arith}
-use lib.ListN.{length}
+use borrow.Author.Tests.{lt-ltb, le-ltb, eq-eqb, eqb-true}
+use lib.Dec.{eqb}
+use lib.ListN.{length, getD}
 use lib.Pow.{pow-pos}
 use Rattle.rules.specs.Rule.{cellWidth}
 use Rattle.value.specs.Graph.{Assigns}
 use Rattle.meaning.specs.Meaning.{Interpretation, OfKind}
 use Rattle.rows.specs.Row.{MAX}
-use Rattle.lowering.specs.Lowering.{Lowering, targetRows}
+use Rattle.lowering.specs.Images.{mapAt}
+use Rattle.lowering.specs.Lowering.{Lowering, sourceRows, targetRows}
 use Rattle.soundness.specs.Sound.{ImagesAgree, SourceTrue, TargetTrue}
 use Rattle.soundness.specs.Transfer.{assignment, interpretation}
+use Rattle.soundness.specs.Choices.{Within, UnmappedVar, classesLeft, ClassZeroVar, AgreesOnMapped, AgreesOnImages, AgreesOnUnmapped, AgreesOnClassZero}
 use Rattle.soundness.specs.Passed.{Passed}
 use Rattle.soundness.proofs.Facts.{Formed, Matched}
 use Rattle.soundness.proofs.Formed.{formed}
 use Rattle.soundness.proofs.Found.{of-row}
-use Rattle.soundness.proofs.Owners.{of-read, of-call, one-owner}
+use Rattle.soundness.proofs.Owners.{owned-class, of-read, of-call, one-owner}
 use Rattle.soundness.proofs.RootFacts.{within, of-root, cong-read, cong-call, only}
-use Rattle.soundness.proofs.Forward.{assignment-fits, forward-agree, forward-roots}
-use Rattle.soundness.proofs.Backward.{interpretation-fits, backward-agree, backward-roots}
+use Rattle.soundness.proofs.Forward.{at-var, at-free, assignment-fits, forward-agree, forward-roots}
+use Rattle.soundness.proofs.Backward.{variable-at, interpretation-fits, backward-agree, backward-roots}
 
 -- 0 everywhere
 abbrev pub zeros : ℕ → ℕ
@@ -33,7 +40,39 @@ module _ (L : Lowering) where
   pub zero-fits : OfKind zero-interpretation (L .source .rows)
   zero-fits = record { variables-fit = λ i w h e. pow-pos w; cells-fit = λ a x. pow-pos (cellWidth a); results-fit = λ f w vs. pow-pos w }
 
+  -- q at the rows of class 0, p at the unmapped rows, else 0
+  abbrev pub in-class-zero : List ℕ → (ℕ → ℕ) → ℕ → ℕ
+  in-class-zero cls q r = cond (eqb (getD cls r 0) 0) (q r) 0
+
+  abbrev pub at-unmapped : (ℕ → ℕ) → Interpretation
+  at-unmapped p = record { variable = λ i. cond (eqb (mapAt (L .map) i) MAX) (p i) 0; array = λ a x. 0; function = λ f w vs. 0 }
+
+  -- each fits, and agrees with what it was made of
+  below : (b : Bool) (x w : ℕ) → (b ≡ true → x < 2 ^ w) → cond b x 0 < 2 ^ w
+  below true x w h = h refl
+  below false x w h = pow-pos w
+
+  pub class-zero-fits : (cls : List ℕ) (q : ℕ → ℕ) → Within (ClassZeroVar L cls) q → Assigns (in-class-zero cls q) (L .target .rows)
+  class-zero-fits cls q fits r w h e = below _ (q r) w (λ t. fits r w (h, eqb-true _ _ t, e))
+
+  pub class-zero-has : (cls : List ℕ) (q : ℕ → ℕ) → AgreesOnClassZero L cls (in-class-zero cls q) q
+  class-zero-has cls q r w (h, c, e) = rw (eq-eqb _ _ c)
+
+  pub unmapped-fits : (p : ℕ → ℕ) → Within (UnmappedVar L) p → OfKind (at-unmapped p) (L .source .rows)
+  unmapped-fits p fits =
+      record {
+        variables-fit = λ i w h e. below _ (p i) w (λ t. fits i w (h, eqb-true _ _ t, e));
+        cells-fit = zero-fits .cells-fit;
+        results-fit = zero-fits .results-fit;
+      }
+
+  pub unmapped-has : (p : ℕ → ℕ) → AgreesOnUnmapped L (at-unmapped p) p
+  unmapped-has p i w (h, k, e) = rw (eq-eqb _ _ k)
+
 module _ (L : Lowering) (slice : length (L .target .rows) ≤ MAX) (tests : Passed L) where
+  small : targetRows L ≤ MAX
+  small = omega arith
+
   graphs : Formed L
   graphs = formed L tests
 
@@ -49,9 +88,6 @@ module _ (L : Lowering) (slice : length (L .target .rows) ≤ MAX) (tests : Pass
         cong-call = cong-call L tests;
         only = only L tests;
       }
-    where
-      small : targetRows L ≤ MAX
-      small = omega arith
 
   pub passed-forward : (I : Interpretation) (given : ℕ → ℕ) → Assigns given (L .target .rows) → SourceTrue L I
       → TargetTrue L (assignment L I given) × ImagesAgree L I (assignment L I given)
@@ -65,3 +101,17 @@ module _ (L : Lowering) (slice : length (L .target .rows) ≤ MAX) (tests : Pass
     (interpretation-fits L graphs facts A fits J free, backward-roots L graphs facts A fits J roots),
     λ i (h, k). let w = within L tests i h k in (w, backward-agree L graphs facts A fits J roots i (h, w)),
   )
+
+  -- at variables: the assignment has the interpretation's number at a mapped one's image and the given number in class 0; the interpretation has
+  -- the image's number at a mapped one and the given number at an unmapped one
+  pub assigned-image : (I : Interpretation) (given : ℕ → ℕ) → AgreesOnImages L (assignment L I given) (I .variable)
+  assigned-image I given i w ((h, k), e) = at-var L graphs facts I given i w (h, within L tests i h k) e
+
+  pub assigned-free : (I : Interpretation) (given : ℕ → ℕ) → AgreesOnClassZero L (classesLeft L) (assignment L I given) given
+  assigned-free I given r w (h, c, e) = at-free L graphs facts I given r h (λ o x. owned-class L tests graphs small o r x c)
+
+  pub interpreted-mapped : (A : ℕ → ℕ) (J : Interpretation) → AgreesOnMapped L (interpretation L A J) (λ i. A (mapAt (L .map) i))
+  interpreted-mapped A J i w ((h, k), e) = variable-at L A J i ∙ rw (lt-ltb _ _ (within L tests i h k))
+
+  pub interpreted-unmapped : (A : ℕ → ℕ) (J : Interpretation) → AgreesOnUnmapped L (interpretation L A J) (J .variable)
+  interpreted-unmapped A J i w (h, k, e) = variable-at L A J i ∙ rw (le-ltb (mapAt (L .map) i) (targetRows L) (omega (arith, small)))

@@ -54,6 +54,12 @@ unfolding all
 sameVals-refl [] = refl
 sameVals-refl (v ∷ vs) = rw (sameVal-refl v, sameVals-refl vs)
 
+-- what the interpretation gives a variable
+pub variable-at : (L : Lowering) (A : ℕ → ℕ) (J : Interpretation) (i : ℕ)
+    → interpretation L A J .variable i ≡ cond (ltb (m L i) (targetRows L)) (A (m L i)) (J .variable i)
+unfolding interpretation
+variable-at L A J i = refl
+
 module _ (L : Lowering) (F : Formed L) (M : Matched L) (A : ℕ → ℕ) (fits : Assigns A (L .target .rows)) (J : Interpretation) where
   abbrev I : Interpretation
   I = interpretation L A J
@@ -64,10 +70,6 @@ module _ (L : Lowering) (F : Formed L) (M : Matched L) (A : ℕ → ℕ) (fits :
   -- the arguments of a call entry
   abbrev args : ℕ → List Val
   args q = tabulate (λ l. v (callArg (L .calls) (L .cargs) q l)) (argCount (L .calls) q)
-
-  at-var : (i : ℕ) → I .variable i ≡ cond (ltb (m L i) (targetRows L)) (A (m L i)) (J .variable i)
-  unfolding interpretation
-  at-var i = refl
 
   at-cell : (a x : ℕ) → I .array a x ≡ cond (ltb (readAt L A a x) (readCount (L .reads))) (A (readVar (L .reads) (readAt L A a x))) (J .array a x)
   unfolding interpretation
@@ -198,7 +200,7 @@ module _ (L : Lowering) (F : Formed L) (M : Matched L) (A : ℕ → ℕ) (fits :
             at-result f w vs ∙ rw (lt-ltb _ _ b) (calls-agree p q l (z .inside) (e ∙ sym (z .function-is)) (s ∙ sym n) ∙ ap A (z .variable-is))
 
     pub backward-agree : (i : ℕ) → Agree L F M I A fits i
-    backward-agree = agree-rows L F M I A fits (λ i w k e. at-var i ∙ rw (lt-ltb _ _ (k .1))) leaf-read leaf-call
+    backward-agree = agree-rows L F M I A fits (λ i w k e. variable-at L A J i ∙ rw (lt-ltb _ _ (k .1))) leaf-read leaf-call
 
     pub backward-roots : RootsTrue (sourceValue (L .source .rows) (L .source .bits) (L .source .side) I) (L .eroots)
     backward-roots q h =
@@ -209,7 +211,7 @@ module _ (L : Lowering) (F : Formed L) (M : Matched L) (A : ℕ → ℕ) (fits :
   pub interpretation-fits : OfKind J (L .source .rows) → OfKind I (L .source .rows)
   interpretation-fits kinds =
       record {
-        variables-fit = λ i w h e. rw (at-var i) (on-var i w h e _ refl);
+        variables-fit = λ i w h e. rw (variable-at L A J i) (on-var i w h e _ refl);
         cells-fit = λ a x. rw (at-cell a x) (on-cell a x _ refl);
         results-fit = λ f w vs. rw (at-result f w vs) (on-result f w vs _ refl);
       }

@@ -23,9 +23,9 @@ use Rattle.value.proofs.Tagged.{node-var}
 use Rattle.meaning.specs.Meaning.{Interpretation, OfKind, RootsTrue, sourceValue}
 use Rattle.lowering.specs.Images.{mapAt, fieldAt}
 use Rattle.lowering.specs.Tables.{readCount, readVar, readArray, readIndex, callCount, callVar, callFunction, argCount, callArg, sameFunction}
-use Rattle.lowering.specs.Lowering.{Lowering, sourceRows}
+use Rattle.lowering.specs.Lowering.{Lowering, sourceRows, targetRows}
 use Rattle.soundness.specs.Transfer.{origin, isOrigin, varOrigin, readOf, callOf, originValue, readCell, callResult, assignment}
-use Rattle.soundness.proofs.Facts.{S, T, m, Mapped, Formed, Owner, by-var, by-read, by-call, ReadPair, CallPair, Matched, rootOf}
+use Rattle.soundness.proofs.Facts.{S, T, m, Mapped, Formed, Owner, by-var, by-read, by-call, Owns, ReadPair, CallPair, Matched, rootOf}
 use Rattle.soundness.proofs.Images.{var-row}
 use Rattle.soundness.proofs.Tells.{tv, row-value, cong-tells, cong-width, tells-in}
 use Rattle.soundness.proofs.Agree.{sv, Agree, LeafRead, LeafCall, agree-rows}
@@ -64,13 +64,21 @@ module _ (L : Lowering) (F : Formed L) (M : Matched L) (I : Interpretation) (giv
       e = first-only (λ p. eqb (readVar (L .reads) p) (readVar (L .reads) q)) (readCount (L .reads)) q h (eq-eqb (readVar (L .reads) q) (readVar (L .reads) q) refl)
           (λ p l t. ap number (M .one-owner (by-read p) (by-read q) (readVar (L .reads) q) (l, eqb-true _ _ t) (h, refl)))
 
+  -- no entry is found where none owns the row
+  no-read : (r : ℕ) → ((q : ℕ) → Owns L (by-read q) r → ⊥) → ltb (readOf L r) (readCount (L .reads)) ≡ false
+  no-read r none = first-nowhere (λ q. eqb (readVar (L .reads) q) r) (readCount (L .reads)) (λ q l t. none q (l, eqb-true _ _ t))
+
+  no-call : (r : ℕ) → ((q : ℕ) → Owns L (by-call q) r → ⊥) → ltb (callOf L r) (callCount (L .calls)) ≡ false
+  no-call r none = first-nowhere (λ q. eqb (callVar (L .calls) q) r) (callCount (L .calls)) (λ q l t. none q (l, eqb-true _ _ t))
+
   at-call : (q w : ℕ) → q < callCount (L .calls) → T L (callVar (L .calls) q) ≡ Var w → A (callVar (L .calls) q) ≡ callResult L I w q
   unfolding assignment number kind
-  at-call q w h v = rw (no-read, e, lt-ltb _ _ h) (ap (λ (z : ℕ). callResult L I z q) (node-var (rowAt Target (L .target .rows) (callVar (L .calls) q)) w v .1))
+  at-call q w h v =
+      rw (no-read (callVar (L .calls) q) other, e, lt-ltb _ _ h)
+      (ap (λ (z : ℕ). callResult L I z q) (node-var (rowAt Target (L .target .rows) (callVar (L .calls) q)) w v .1))
     where
-      no-read : ltb (readOf L (callVar (L .calls) q)) (readCount (L .reads)) ≡ false
-      no-read = first-nowhere (λ p. eqb (readVar (L .reads) p) (callVar (L .calls) q)) (readCount (L .reads))
-          (λ p l t. let z : 1 ≡ 2 = ap kind (M .one-owner (by-read p) (by-call q) (callVar (L .calls) q) (l, eqb-true _ _ t) (h, refl)) in omega arith)
+      other : (p : ℕ) → Owns L (by-read p) (callVar (L .calls) q) → ⊥
+      other p x = let z : kind (by-read p) ≡ 2 = ap kind (M .one-owner (by-read p) (by-call q) (callVar (L .calls) q) x (h, refl)) in omega arith
 
       e : callOf L (callVar (L .calls) q) ≡ q
       e = first-only (λ p. eqb (callVar (L .calls) p) (callVar (L .calls) q)) (callCount (L .calls)) q h (eq-eqb (callVar (L .calls) q) (callVar (L .calls) q) refl)
@@ -82,25 +90,29 @@ module _ (L : Lowering) (F : Formed L) (M : Matched L) (I : Interpretation) (giv
       let (a, (b, _)) = all-true (eqb (getD (rowAt Source (L .source .rows) i) 0 0) tVar ∷ eqb (mapAt (L .map) i) r ∷ []) e in
       (var-row (rowAt Source (L .source .rows) i) (eqb-true _ _ a), eqb-true _ _ b)
 
-  at-var : (i w : ℕ) → Mapped L i → S L i ≡ Var w → A (m L i) ≡ I .variable i
+  pub at-var : (i w : ℕ) → Mapped L i → S L i ≡ Var w → A (m L i) ≡ I .variable i
   unfolding assignment number kind all
-  at-var i w k v = rw (no-read, no-call, e, lt-ltb _ _ (k .0))
+  at-var i w k v = rw (no-read (m L i) (λ p x. other (by-read p) x (omega arith)), no-call (m L i) (λ p x. other (by-call p) x (omega arith)), e, lt-ltb _ _ (k .0))
     where
       owns : Mapped L i × ((z : ℕ) × (S L i ≡ Var z)) × (m L i ≡ m L i)
       owns = (k, (w, v), refl)
 
-      no-read : ltb (readOf L (m L i)) (readCount (L .reads)) ≡ false
-      no-read = first-nowhere (λ p. eqb (readVar (L .reads) p) (m L i)) (readCount (L .reads))
-          (λ p l t. let z : 1 ≡ 0 = ap kind (M .one-owner (by-read p) (by-var i) (m L i) (l, eqb-true _ _ t) owns) in omega arith)
-
-      no-call : ltb (callOf L (m L i)) (callCount (L .calls)) ≡ false
-      no-call = first-nowhere (λ p. eqb (callVar (L .calls) p) (m L i)) (callCount (L .calls))
-          (λ p l t. let z : 2 ≡ 0 = ap kind (M .one-owner (by-call p) (by-var i) (m L i) (l, eqb-true _ _ t) owns) in omega arith)
+      other : (o : Owner) → Owns L o (m L i) → 0 < kind o → ⊥
+      other o x h = let z : kind o ≡ 0 = ap kind (M .one-owner o (by-var i) (m L i) x owns) in omega arith
 
       e : varOrigin L (m L i) ≡ i
       e = first-only (isOrigin L (m L i)) (sourceRows L) i (k .0)
           (rw (node-var (rowAt Source (L .source .rows) i) w v .0, eq-eqb (m L i) (m L i) refl))
           (λ j l t. let (a, b) = is-origin (m L i) j t in ap number (M .one-owner (by-var j) (by-var i) (m L i) ((l, rw b (k .1)), (_, a), b) owns))
+
+  -- a row that nobody owns has the number given
+  pub at-free : (r : ℕ) → r < targetRows L → ((o : Owner) → Owns L o r → ⊥) → A r ≡ given r
+  unfolding assignment
+  at-free r h none = rw (no-read r (λ q. none (by-read q)), no-call r (λ q. none (by-call q)), no-var)
+    where
+      no-var : ltb (varOrigin L r) (sourceRows L) ≡ false
+      no-var = first-nowhere (isOrigin L r) (sourceRows L)
+          (λ j l t. let (a, b) = is-origin r j t in none (by-var j) ((l, rw b h), (_, a), b))
 
   -- it gives each variable a number of its width
   pub assignment-fits : OfKind I (L .source .rows) → Assigns given (L .target .rows) → Assigns A (L .target .rows)

@@ -52,11 +52,14 @@ module _ (L : Lowering) (P : Passed L) (F : Formed L) (small : targetRows L ≤ 
       rw (ne-eqb (m L i) MAX (λ z. omega arith))
       (ap (λ (n : Node). getD (classesAt L i n) (m L i) 0) e ∙ getD-set-same (classes L i) (m L i) 1 0 (rw (classes-length L (P .reached) i) u))
 
+  -- and stays there
+  var-kept : (i w n : ℕ) → i < n → n ≤ sourceRows L → Mapped L i → S L i ≡ Var w → getD (classes L n) (m L i) 0 ≡ 1
+  var-kept i w n h u x e = rows-hold L (P .reached) (λ c. c ≡ 1) (m L i) (suc i) n (turn-one L (m L i)) h u (var-after i w x e)
+
   -- two mapped variables have two images
   vars-apart : (i j w v : ℕ) → i < j → Mapped L i → Mapped L j → S L i ≡ Var w → S L j ≡ Var v → m L i ≡ m L j → ⊥
   vars-apart i j w v h x y e f q =
-      let one : getD (classes L j) (m L i) 0 ≡ 1 =
-      rows-hold L (P .reached) (λ c. c ≡ 1) (m L i) (suc i) j (turn-one L (m L i)) h (omega (arith, y .0)) (var-after i w x e) in
+      let one = var-kept i w j h (omega (arith, y .0)) x e in
       let none : getD (classes L j) (m L i) 0 ≡ 0 = rw q (var-free j v y f) in
       omega arith
 
@@ -72,6 +75,16 @@ module _ (L : Lowering) (P : Passed L) (F : Formed L) (small : targetRows L ≤ 
       rw (← q) (sym (kind-stays L (P .reached) (m L i) i (omega (arith, x .0))) ∙ ap kind (var-free i w x e))
   owner-kind (by-read q) r (h, v) = rw (← v) (ap kind (class-of-read L (P .reached) q h))
   owner-kind (by-call q) r (h, v) = rw (← v) (ap kind (class-of-call L (P .reached) q h))
+
+  -- what has an owner is not of class 0 in the end
+  pub owned-class : (o : Owner) (r : ℕ) → Owns L o r → getD (classes L (sourceRows L)) r 0 ≡ 0 → ⊥
+  unfolding kind
+  owned-class o r x z = go o x (sym (ap kind z) ∙ kind-stays L (P .reached) r (sourceRows L) (omega arith) ∙ owner-kind o r x)
+    where
+      go : (o : Owner) → Owns L o r → 0 ≡ kindOf o → ⊥
+      go (by-var i) (x, (w, e), q) k = let one = rw q at (var-kept i w (sourceRows L) (x .0) (omega arith) x e) in omega arith
+      go (by-read q) x k = omega arith
+      go (by-call q) x k = omega arith
 
   -- two entries of one table at one place have one offset
   reads-one : (q p r : ℕ) → Owns L (by-read q) r → Owns L (by-read p) r → q ≡ p

@@ -2,6 +2,7 @@
 -- assignment and the interpretation that are found) and of crates/lowering (Check: the operation's answer). docs/PROOF.md tells the argument.
 -- Assumes that Check accepts, whatever lists are lent, and that the target has no more words than a slice can have. Nothing else.
 use Prim.Native.Nat.{ℕ, _≤_}
+use mathlib.Core.Path.{_∙_}
 use mathlib.Core.Logic.{_↔_}
 use mathlib.Core.List.{List, []}
 use lib.ListN.{length}
@@ -11,23 +12,42 @@ use Rattle.rows.specs.declared.Graph.the-variants.{Source, Target}
 use Rattle.rows.specs.Row.{MAX}
 use Rattle.wf.specs.Promise.{AreWidths}
 use Rattle.wf.proofs.Promise.{are-widths}
+use Rattle.lowering.specs.Images.{mapAt}
 use Rattle.lowering.specs.Lowering.{Lowering}
 use Rattle.lowering.specs.Check.{widthsOfSource, widthsOfTarget}
 use Rattle.soundness.specs.Sound.{Accepts, Sound, ImagesAgree, SourceTrue, TargetTrue, SourceIsSatisfiable, TargetIsSatisfiable}
 use Rattle.soundness.specs.Transfer.{assignment, interpretation}
+use Rattle.soundness.specs.Choices.{classesLeft, AgreesOnMapped, AgreesOnImages, AgreesOnUnmapped, AgreesOnClassZero}
+use Rattle.soundness.specs.Choices.{OpenInSource, OpenInTarget, SameChoices}
+use Rattle.soundness.specs.Passed.{Passed}
 use Rattle.soundness.proofs.Passed.{passed}
 use Rattle.soundness.proofs.Accepted.{zeros, zero-interpretation, zeros-fit, zero-fits, passed-forward, passed-backward}
+use Rattle.soundness.proofs.Accepted.{assigned-image, assigned-free, interpreted-mapped, interpreted-unmapped}
+use Rattle.soundness.proofs.Accepted.{in-class-zero, at-unmapped, class-zero-fits, class-zero-has, unmapped-fits, unmapped-has}
 
 module _ (L : Lowering) (ws0 ws1 cls ent : List ℕ) (slice : length (L .target .rows) ≤ MAX) (accepts : Accepts L ws0 ws1 cls ent) where
+  tests : Passed L
+  tests = passed L ws0 ws1 cls ent accepts
+
   -- 1. Forward, along a given assignment for what the lowering leaves free: the assignment that belongs to an interpretation
   pub forward-along : (I : Interpretation) (given : ℕ → ℕ) → Assigns given (L .target .rows) → SourceTrue L I
       → TargetTrue L (assignment L I given) × ImagesAgree L I (assignment L I given)
-  forward-along = passed-forward L slice (passed L ws0 ws1 cls ent accepts)
+  forward-along = passed-forward L slice tests
 
   -- 2. Backward, along a given interpretation for what the lowering leaves free: the interpretation that belongs to an assignment
   pub backward-along : (A : ℕ → ℕ) (J : Interpretation) → OfKind J (L .source .rows) → TargetTrue L A
       → SourceTrue L (interpretation L A J) × ImagesAgree L (interpretation L A J) A
-  backward-along = passed-backward L slice (passed L ws0 ws1 cls ent accepts)
+  backward-along = passed-backward L slice tests
+
+  -- Where the two leave what they are given: at a mapped variable and its image stands one number; the given assignment counts in class 0, the given
+  -- interpretation at unmapped variables
+  pub forward-at : (I : Interpretation) (given : ℕ → ℕ)
+      → AgreesOnImages L (assignment L I given) (I .variable) × AgreesOnClassZero L (classesLeft L) (assignment L I given) given
+  forward-at I given = (assigned-image L slice tests I given, assigned-free L slice tests I given)
+
+  pub backward-at : (A : ℕ → ℕ) (J : Interpretation)
+      → AgreesOnMapped L (interpretation L A J) (λ i. A (mapAt (L .map) i)) × AgreesOnUnmapped L (interpretation L A J) (J .variable)
+  backward-at A J = (interpreted-mapped L slice tests A J, interpreted-unmapped L slice tests A J)
 
   -- Each interpretation of the source that makes its roots true has an assignment of the target that makes its roots true, and each mapped row has
   -- its image's value and width
@@ -47,10 +67,29 @@ module _ (L : Lowering) (ws0 ws1 cls ent : List ℕ) (slice : length (L .target 
   pub sound : Sound L
   sound = record { forward = forward; backward = backward; equisatisfiable = equisatisfiable }
 
+  -- "for any values of the mapped source variables, these can be completed to an interpretation that makes the source roots true exactly when the
+  -- same values on their images can be completed in the target", whatever is fixed for the source's unmapped variables and the target's of class 0
+  -- (02, 2.5)
+  pub same-choices : SameChoices L (classesLeft L)
+  same-choices u p q free-p free-q = (to-target, to-source)
+    where
+      to-target : OpenInSource L u p → OpenInTarget L (classesLeft L) u q
+      to-target (I, s, mapped, unmapped) =
+          let given = in-class-zero L (classesLeft L) q in
+          let (t, _) = forward-along I given (class-zero-fits L (classesLeft L) q free-q) s in
+          let (image, free) = forward-at I given in
+          (assignment L I given, t, λ i w x. image i w x ∙ mapped i w x, λ r w x. free r w x ∙ class-zero-has L (classesLeft L) q r w x)
+
+      to-source : OpenInTarget L (classesLeft L) u q → OpenInSource L u p
+      to-source (A, t, images, zero) =
+          let given = at-unmapped L p in
+          let (s, _) = backward-along A given (unmapped-fits L p free-p) t in
+          let (mapped, free) = backward-at A given in
+          (interpretation L A given, s, λ i w x. mapped i w x ∙ images i w x, λ i w x. free i w x ∙ unmapped-has L p i w x)
+
   -- "Every width handed upward is therefore between 1 and 4,096, and whoever receives one may use it" (02, 2.8)
   pub handed : AreWidths (widthsOfSource L) × AreWidths (widthsOfTarget L)
-  handed =
-      let P = passed L ws0 ws1 cls ent accepts in (
-        are-widths Source (length (L .source .bits)) (L .source .side) (L .source .rows) (P .source-formed),
-        are-widths Target (length (L .target .bits)) [] (L .target .rows) (P .target-formed),
-      )
+  handed = (
+    are-widths Source (length (L .source .bits)) (L .source .side) (L .source .rows) (tests .source-formed),
+    are-widths Target (length (L .target .bits)) [] (L .target .rows) (tests .target-formed),
+  )
