@@ -91,7 +91,7 @@ class Edits(unittest.TestCase):
 class Definitions(unittest.TestCase):
     # what the operations and programs answer, what is promised of it, and what the theorems' page names
     STATEMENTS = ("check", "judge", "verdict", "sourceWidths", "targetWidths", "rootsAnswer", "values", "sectionAnswer",
-                  "section", "lineOf", "Sound", "WellFormed", "assignment", "interpretation", "Agrees", "wordsIn",
+                  "section", "lineOf", "Sound", "SameChoices", "WellFormed", "assignment", "interpretation", "Agrees", "wordsIn",
                   "endBare", "callBare")
 
     def test_the_rest_is_inner(self):

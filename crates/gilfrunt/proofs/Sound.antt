@@ -1,10 +1,10 @@
--- Number 0 is acceptance, and what is accepted is sound: the contracts of Check's and judge's code joined with the theorem. Assumes nothing.
+-- Number 0 is acceptance, and what is accepted is sound and leaves the same choices: the contracts of Check's and judge's code joined with the theorem. Assumes nothing.
 use Prim.Native.Nat.{ℕ, _≤_}
 use mathlib.Core.Path.{_≡_, sym, ap, _∙_}
 use mathlib.Core.Bool.{true}
-use mathlib.Core.List.{List}
+use mathlib.Core.List.{List, [], _∷_}
 use borrow.Author.Tests.{eq-eqb}
-use lib.ListN.{length}
+use lib.ListN.{length, getD}
 use Rattle.answers.specs.declared.Answer.{Answer}
 use Rattle.answers.specs.declared.Words.{Words}
 use Rattle.answers.specs.Answer.{wordsOf, isAccepted}
@@ -12,19 +12,41 @@ use Rattle.answers.specs.Result.{Result, result}
 use Rattle.rows.specs.Row.{MAX}
 use Rattle.lowering.specs.Lowering.{Lowering}
 use Rattle.lowering.specs.Check.{check}
-use Rattle.soundness.specs.Sound.{Sound}
-use Rattle.soundness.proofs.Theorem.{sound}
+use Rattle.soundness.specs.Sound.{Accepts, Sound}
+use Rattle.soundness.specs.Choices.{SameChoices}
+use Rattle.soundness.proofs.Theorem.{sound, choices-left}
 use Rattle.loaded.specs.Held.{held}
 use Rattle.judge.specs.Judge.{judge}
-use Rattle.judge.proofs.Sound.{judge-sound}
+use Rattle.judge.proofs.Sound.{judge-sound, judge-choices}
 
 -- "acceptance is number 0"
 accepted : (w : Words) (r : Answer) → w ≡ wordsOf r → w .number ≡ 0 → isAccepted r ≡ true
 accepted w r e z = eq-eqb _ _ (ap (λ (v : Words). v .number) (sym e) ∙ z)
 
-module _ (w : Words) (r : Answer) (e : w ≡ wordsOf r) (ws0 ws1 cls ent : List ℕ) (lists : List (List ℕ)) where
-  pub check-sound : (L : Lowering) → length (L .target .rows) ≤ MAX → result r lists ≡ check L ws0 ws1 cls ent → w .number ≡ 0 → Sound L
-  check-sound L slice o z = sound L ws0 ws1 cls ent slice (ap (λ (q : Result). isAccepted (q .answer)) (sym o) ∙ accepted w r e z)
+module _ (w : Words) (r : Answer) (e : w ≡ wordsOf r) (ws0 ws1 cls ent l0 l1 left : List ℕ) (more : List (List ℕ)) where
+  abbrev lists : List (List ℕ)
+  lists = l0 ∷ l1 ∷ left ∷ more
 
-  pub book-sound : (b words : List ℕ) → length b ≤ MAX → result r lists ≡ judge b ws0 ws1 cls ent words → w .number ≡ 0 → Sound (held b)
-  book-sound b words slice o z = judge-sound b slice r ws0 ws1 cls ent words (ap (λ (q : Result). q .answer) o) (accepted w r e z)
+  -- the third list that an operation leaves
+  third : (o : Result) → result r lists ≡ o → left ≡ getD (o .lists) 2 []
+  third o q = ap (λ (z : Result). getD (z .lists) 2 []) q
+
+  pub check-means : (L : Lowering) → length (L .target .rows) ≤ MAX → result r lists ≡ check L ws0 ws1 cls ent
+      → (w .number ≡ 0 → Sound L) × (w .number ≡ 0 → SameChoices L left)
+  check-means L slice o = (
+    λ z. sound L ws0 ws1 cls ent slice (yes z),
+    λ z. rw (third _ o) (choices-left L ws0 ws1 cls ent slice (yes z) (check L ws0 ws1 cls ent .answer) cls (yes z)),
+  )
+    where
+      yes : w .number ≡ 0 → Accepts L ws0 ws1 cls ent
+      yes z = ap (λ (q : Result). isAccepted (q .answer)) (sym o) ∙ accepted w r e z
+
+  pub book-means : (b words : List ℕ) → length b ≤ MAX → result r lists ≡ judge b ws0 ws1 cls ent words
+      → (w .number ≡ 0 → Sound (held b)) × (w .number ≡ 0 → SameChoices (held b) left)
+  book-means b words slice o = (
+    λ z. judge-sound b slice r ws0 ws1 cls ent words is (accepted w r e z),
+    λ z. rw (third _ o) (rw is at (judge-choices b slice r ws0 ws1 cls ent words is (accepted w r e z))),
+  )
+    where
+      is : r ≡ judge b ws0 ws1 cls ent words .answer
+      is = ap (λ (q : Result). q .answer) o

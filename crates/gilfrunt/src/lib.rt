@@ -11,6 +11,7 @@ ghost use Rattle.judge.specs.Judge.{judge};
 ghost use Rattle.lowering.specs.Lowering.{lowering};
 ghost use Rattle.lowering.specs.Check.{check};
 ghost use Rattle.soundness.specs.Sound.{Sound};
+ghost use Rattle.soundness.specs.Choices.{SameChoices};
 use answers::Words;
 use book::Stretch;
 
@@ -83,6 +84,9 @@ pub extern "C" fn gilfrunt_check(
     ensures sound { λ r. ⌜ (r .number ≡ 0 → Sound (lowering (now (source .entry)) (now (ebits .entry)) (now (eside .entry))
         (now (eroots .entry)) (now (map .entry)) (now (reads .entry)) (now (calls .entry)) (now (cargs .entry)) (now (target .entry))
         (now (tbits .entry)) (now (troots .entry)))) ⌝ }
+    ensures choices { λ r. ⌜ (r .number ≡ 0 → SameChoices (lowering (now (source .entry)) (now (ebits .entry)) (now (eside .entry))
+        (now (eroots .entry)) (now (map .entry)) (now (reads .entry)) (now (calls .entry)) (now (cargs .entry)) (now (target .entry))
+        (now (tbits .entry)) (now (troots .entry))) (now (classes .exit))) ⌝ }
 {
     let a = checker::check(
         source,
@@ -133,6 +137,7 @@ pub extern "C" fn gilfrunt_judge(
         ≡ toldOf (judge (now (book .entry)) (now (ws0 .entry)) (now (ws1 .entry)) (now (classes .entry)) (now (entries .entry))
         (now (words .entry))) ⌝ }
     ensures sound { λ r. ⌜ (r .number ≡ 0 → Sound (held (now (book .entry)))) ⌝ }
+    ensures choices { λ r. ⌜ (r .number ≡ 0 → SameChoices (held (now (book .entry))) (now (classes .exit))) ⌝ }
 {
     let a = judge::judge(book, ws0, ws1, classes, entries, words);
     answers::words_of(a)

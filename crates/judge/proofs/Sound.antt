@@ -9,49 +9,70 @@ use lib.Dec.{ltb}
 use lib.ListN.{length, replicate, length-replicate}
 use Rattle.answers.specs.declared.Answer.{Answer}
 use Rattle.answers.specs.declared.Answer.the-variants.{WorkShort, BookShape}
-use Rattle.answers.specs.Answer.{isAccepted, andThen}
+use Rattle.answers.specs.Answer.{isAccepted, andThen, lent}
 use Rattle.lists.proofs.Choice.{no-way}
 use Rattle.rows.specs.Row.{MAX}
 use Rattle.lowering.specs.Lowering.{Lowering, sourceRows, targetRows}
 use Rattle.lowering.specs.Check.{refuse, firstRefusal, countAnswers, checkAnswer}
 use Rattle.soundness.specs.Sound.{Accepts, Sound}
-use Rattle.soundness.proofs.Theorem.{sound}
+use Rattle.soundness.specs.Choices.{classesLeft, SameChoices}
+use Rattle.soundness.proofs.Theorem.{sound, same-choices, choices-left}
 use Rattle.book.specs.Book.{bookAnswer}
-use Rattle.bodies.specs.Words.{listOf}
 use Rattle.bodies.proofs.Words.{list-short}
 use Rattle.loaded.specs.Held.{held, bookWords}
 use Rattle.judge.specs.Judge.{longest, verdict, judge}
 use Rattle.judge.proofs.Outcome.{accepts-both}
 
 -- Check accepts in lists of so many words
-accepts-in : (L : Lowering) (w0 w1 c e : ℕ) (x0 x1 x2 x3 : List ℕ) → length x0 ≡ w0 → length x1 ≡ w1 → length x2 ≡ c → length x3 ≡ e
-    → isAccepted (checkAnswer L w0 w1 c e) ≡ true → Accepts L x0 x1 x2 x3
-accepts-in L w0 w1 c e x0 x1 x2 x3 f g h k a = rw (f, g, h, k) a
+accepts-in : (L : Lowering) (w0 w1 c e : ℕ) → isAccepted (checkAnswer L w0 w1 c e) ≡ true
+    → Accepts L (replicate w0 0) (replicate w1 0) (replicate c 0) (replicate e 0)
+accepts-in L w0 w1 c e a = rw (long w0, long w1, long c, long e) a
+  where
+    long : (n : ℕ) → length {A = ℕ} (replicate n 0) ≡ n
+    long n = length-replicate {A = ℕ} n 0
 
-module _ (b : List ℕ) (slice : length b ≤ MAX) where
-  held-sound : (w0 w1 c e : ℕ) → isAccepted (checkAnswer (held b) w0 w1 c e) ≡ true → Sound (held b)
-  held-sound w0 w1 c e a =
-      let t : length (listOf b 8) ≤ length b = list-short b 8 in
-      sound (held b) (zeros w0) (zeros w1) (zeros c) (zeros e) (omega arith)
-      (accepts-in (held b) w0 w1 c e (zeros w0) (zeros w1) (zeros c) (zeros e) (long w0) (long w1) (long c) (long e) a)
-    where
-      zeros : ℕ → List ℕ
-      zeros n = replicate n 0
+module _ (b : List ℕ) where
+  -- lists as long as their graphs
+  abbrev of-source : List ℕ
+  of-source = replicate (sourceRows (held b)) 0
 
-      long : (n : ℕ) → length (zeros n) ≡ n
-      long n = length-replicate {A = ℕ} n 0
+  abbrev of-target : List ℕ
+  of-target = replicate (targetRows (held b)) 0
 
-  pub verdict-sound : (r : Answer) → r ≡ verdict b → isAccepted r ≡ true → Sound (held b)
-  verdict-sound r e a = go (ltb longest (length b)) (ap isAccepted (sym e) ∙ a)
+  -- what verdict and judge accept, Check accepts on the lists that the book holds
+  verdict-accepts : (r : Answer) → r ≡ verdict b → isAccepted r ≡ true → Accepts (held b) of-source of-target of-target of-target
+  verdict-accepts r e a = go (ltb longest (length b)) (ap isAccepted (sym e) ∙ a)
     where
       go : (t : Bool) → isAccepted (cond t (BookShape 13)
           (andThen (bookAnswer b) (checkAnswer (held b) (sourceRows (held b)) (targetRows (held b)) (targetRows (held b)) (targetRows (held b))))) ≡ true
-          → Sound (held b)
+          → Accepts (held b) of-source of-target of-target of-target
       go true n = no-way (sym n)
-      go false n = held-sound _ _ _ _ (accepts-both (bookAnswer b) _ n .1)
+      go false n = accepts-in (held b) _ _ _ _ (accepts-both (bookAnswer b) _ n .1)
 
-  pub judge-sound : (r : Answer) (ws0 ws1 cls ent words : List ℕ) → r ≡ judge b ws0 ws1 cls ent words .answer → isAccepted r ≡ true → Sound (held b)
-  judge-sound r ws0 ws1 cls ent words e a =
+  judge-accepts : (r : Answer) (ws0 ws1 cls ent words : List ℕ) → r ≡ judge b ws0 ws1 cls ent words .answer → isAccepted r ≡ true
+      → Accepts (held b) ws0 ws1 cls ent
+  judge-accepts r ws0 ws1 cls ent words e a =
       let x = accepts-both (bookAnswer b) _ (ap isAccepted (sym e) ∙ a) .1 in
       let y = accepts-both (firstRefusal (countAnswers (held b .source) (held b .target) (length ws0) (length ws1) (length cls) (length ent))) _ x .1 in
-      held-sound _ _ _ _ (accepts-both (refuse (ltb (length words) (length (bookWords b))) (WorkShort 5)) _ y .1)
+      accepts-both (refuse (ltb (length words) (length (bookWords b))) (WorkShort 5)) _ y .1
+
+module _ (b : List ℕ) (slice : length b ≤ MAX) where
+  small : length (held b .target .rows) ≤ MAX
+  small = omega (arith, list-short b 8)
+
+  -- so it is sound and leaves the same choices
+  pub verdict-means : (r : Answer) → r ≡ verdict b
+      → (isAccepted r ≡ true → Sound (held b)) × (isAccepted r ≡ true → SameChoices (held b) (classesLeft (held b)))
+  verdict-means r e = (
+    λ a. sound (held b) (of-source b) (of-target b) (of-target b) (of-target b) small (verdict-accepts b r e a),
+    λ a. same-choices (held b) (of-source b) (of-target b) (of-target b) (of-target b) small (verdict-accepts b r e a),
+  )
+
+  pub judge-sound : (r : Answer) (ws0 ws1 cls ent words : List ℕ) → r ≡ judge b ws0 ws1 cls ent words .answer → isAccepted r ≡ true → Sound (held b)
+  judge-sound r ws0 ws1 cls ent words e a = sound (held b) ws0 ws1 cls ent small (judge-accepts b r ws0 ws1 cls ent words e a)
+
+  -- by the list of classes that judge leaves
+  pub judge-choices : (r : Answer) (ws0 ws1 cls ent words : List ℕ) → r ≡ judge b ws0 ws1 cls ent words .answer → isAccepted r ≡ true
+      → SameChoices (held b) (lent r cls (classesLeft (held b)))
+  judge-choices r ws0 ws1 cls ent words e a =
+      choices-left (held b) ws0 ws1 cls ent small (judge-accepts b r ws0 ws1 cls ent words e a) r cls a

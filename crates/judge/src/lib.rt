@@ -5,6 +5,7 @@ ghost use mathlib.Core.List.{[], _∷_};
 ghost use Rattle.answers.specs.Answer.{isAccepted};
 ghost use Rattle.answers.specs.Result.{result};
 ghost use Rattle.soundness.specs.Sound.{Sound};
+ghost use Rattle.soundness.specs.Choices.{classesLeft, SameChoices};
 ghost use Rattle.loaded.specs.Held.{held};
 ghost use Rattle.judge.specs.Judge.{judge, verdict};
 use answers::Answer;
@@ -49,6 +50,7 @@ pub fn judge(
 pub fn verdict(book: &[u8]) -> Answer
     ensures answer { λ r. ⌜ r ≡ verdict (now (book .entry)) ⌝ }
     ensures sound { λ r. ⌜ (isAccepted r ≡ true → Sound (held (now (book .entry)))) ⌝ }
+    ensures choices { λ r. ⌜ (isAccepted r ≡ true → SameChoices (held (now (book .entry))) (classesLeft (held (now (book .entry))))) ⌝ }
 {
     if 65536 < book.len() {
         return Answer::BookShape(13);

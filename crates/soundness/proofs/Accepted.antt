@@ -1,13 +1,15 @@
 -- What a lowering that has passed Check's tests gives: the facts about rows, entries and roots, and the two directions. Assumes nothing.
 use Prim.Native.Nat.{ℕ, _<_, _≤_, _^_}
-use mathlib.Core.Path.{_≡_, refl, _∙_}
+use mathlib.Core.Path.{_≡_, refl, sym, _∙_}
 use mathlib.Core.Bool.{Bool, true, false, cond}
 use mathlib.Core.List.{List}
 use native.Mathlib.Omega.{arith}
 use borrow.Author.Tests.{lt-ltb, le-ltb, eq-eqb, eqb-true}
 use lib.Dec.{eqb}
-use lib.ListN.{length, getD}
+use lib.ListN.{length, getD, List·getD-append}
 use lib.Pow.{pow-pos}
+use Rattle.answers.specs.declared.Answer.{Answer}
+use Rattle.answers.specs.Answer.{isAccepted, lent}
 use Rattle.rules.specs.Rule.{cellWidth}
 use Rattle.value.specs.Graph.{Assigns}
 use Rattle.meaning.specs.Meaning.{Interpretation, OfKind}
@@ -16,10 +18,11 @@ use Rattle.lowering.specs.Images.{mapAt}
 use Rattle.lowering.specs.Lowering.{Lowering, sourceRows, targetRows}
 use Rattle.soundness.specs.Sound.{ImagesAgree, SourceTrue, TargetTrue}
 use Rattle.soundness.specs.Transfer.{assignment, interpretation}
-use Rattle.soundness.specs.Choices.{Within, UnmappedVar, classesLeft, ClassZeroVar, AgreesOnMapped, AgreesOnImages, AgreesOnUnmapped, AgreesOnClassZero}
+use Rattle.soundness.specs.Choices.{Within, UnmappedVar, classesLeft, ClassZeroVar, AgreesOnMapped, AgreesOnImages, AgreesOnUnmapped, AgreesOnClassZero, SameChoices}
 use Rattle.soundness.specs.Passed.{Passed}
 use Rattle.soundness.proofs.Facts.{Formed, Matched}
 use Rattle.soundness.proofs.Formed.{formed}
+use Rattle.soundness.proofs.Classes.{classes-length}
 use Rattle.soundness.proofs.Found.{of-row}
 use Rattle.soundness.proofs.Owners.{owned-class, of-read, of-call, one-owner}
 use Rattle.soundness.proofs.RootFacts.{within, of-root, cong-read, cong-call, only}
@@ -69,6 +72,14 @@ module _ (L : Lowering) where
   pub unmapped-has : (p : ℕ → ℕ) → AgreesOnUnmapped L (at-unmapped p) p
   unmapped-has p i w (h, k, e) = rw (eq-eqb _ _ k)
 
+  -- lists of classes that are equal up to the last row have the same variables in class 0
+  pub by-classes : (cls left : List ℕ) → ((r : ℕ) → r < targetRows L → getD left r 0 ≡ getD cls r 0) → SameChoices L cls → SameChoices L left
+  by-classes cls left same choices u p q free-p free-q =
+      let (f, g) = choices u p q free-p (λ r w (h, c, e). free-q r w (h, same r h ∙ c, e)) in (
+        λ o. let (A, t, a, z) = f o in (A, t, a, λ r w (h, c, e). z r w (h, sym (same r h) ∙ c, e)),
+        λ (A, t, a, z). g (A, t, a, λ r w (h, c, e). z r w (h, same r h ∙ c, e)),
+      )
+
 module _ (L : Lowering) (slice : length (L .target .rows) ≤ MAX) (tests : Passed L) where
   small : targetRows L ≤ MAX
   small = omega arith
@@ -115,3 +126,8 @@ module _ (L : Lowering) (slice : length (L .target .rows) ≤ MAX) (tests : Pass
 
   pub interpreted-unmapped : (A : ℕ → ℕ) (J : Interpretation) → AgreesOnUnmapped L (interpretation L A J) (J .variable)
   interpreted-unmapped A J i w (h, k, e) = variable-at L A J i ∙ rw (le-ltb (mapAt (L .map) i) (targetRows L) (omega (arith, small)))
+
+  -- a list that an accepting operation leaves begins with the classes
+  pub left-at : (a : Answer) (cls : List ℕ) → isAccepted a ≡ true → (r : ℕ) → r < targetRows L
+      → getD (lent a cls (classesLeft L)) r 0 ≡ getD (classesLeft L) r 0
+  left-at a cls e r h = rw e (List·getD-append (classesLeft L) _ 0 r (rw (classes-length L (tests .reached) (sourceRows L)) h))

@@ -18,3 +18,4 @@ pub mod Accepted
 pub mod Theorem
 pub mod Guards
 pub mod Model
+pub mod Scan

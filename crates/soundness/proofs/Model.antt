@@ -51,7 +51,7 @@ numbers (suc (suc zero)) = 0
 numbers (suc (suc (suc zero))) = 1
 numbers (suc (suc (suc (suc r)))) = 0
 
-abbrev widthOf : Node → ℕ
+abbrev pub widthOf : Node → ℕ
 widthOf (Var w) = w
 widthOf (Const s w) = 0
 widthOf (Un t a) = 0

@@ -2,10 +2,13 @@
 -- assignment and the interpretation that are found) and of crates/lowering (Check: the operation's answer). docs/PROOF.md tells the argument.
 -- Assumes that Check accepts, whatever lists are lent, and that the target has no more words than a slice can have. Nothing else.
 use Prim.Native.Nat.{ℕ, _≤_}
-use mathlib.Core.Path.{_∙_}
+use mathlib.Core.Path.{_≡_, _∙_}
+use mathlib.Core.Bool.{true}
 use mathlib.Core.Logic.{_↔_}
 use mathlib.Core.List.{List, []}
 use lib.ListN.{length}
+use Rattle.answers.specs.declared.Answer.{Answer}
+use Rattle.answers.specs.Answer.{isAccepted, lent}
 use Rattle.value.specs.Graph.{Assigns}
 use Rattle.meaning.specs.Meaning.{Interpretation, OfKind}
 use Rattle.rows.specs.declared.Graph.the-variants.{Source, Target}
@@ -22,7 +25,7 @@ use Rattle.soundness.specs.Choices.{OpenInSource, OpenInTarget, SameChoi
 use Rattle.soundness.specs.Passed.{Passed}
 use Rattle.soundness.proofs.Passed.{passed}
 use Rattle.soundness.proofs.Accepted.{zeros, zero-interpretation, zeros-fit, zero-fits, passed-forward, passed-backward}
-use Rattle.soundness.proofs.Accepted.{assigned-image, assigned-free, interpreted-mapped, interpreted-unmapped}
+use Rattle.soundness.proofs.Accepted.{by-classes, left-at, assigned-image, assigned-free, interpreted-mapped, interpreted-unmapped}
 use Rattle.soundness.proofs.Accepted.{in-class-zero, at-unmapped, class-zero-fits, class-zero-has, unmapped-fits, unmapped-has}
 
 module _ (L : Lowering) (ws0 ws1 cls ent : List ℕ) (slice : length (L .target .rows) ≤ MAX) (accepts : Accepts L ws0 ws1 cls ent) where
@@ -86,6 +89,10 @@ module _ (L : Lowering) (ws0 ws1 cls ent : List ℕ) (slice : length (L .target 
           let (s, _) = backward-along A given (unmapped-fits L p free-p) t in
           let (mapped, free) = backward-at A given in
           (interpretation L A given, s, λ i w x. mapped i w x ∙ images i w x, λ i w x. free i w x ∙ unmapped-has L p i w x)
+
+  -- the same by the list of classes that an operation leaves with acceptance, zeros after the last row
+  pub choices-left : (a : Answer) (list : List ℕ) → isAccepted a ≡ true → SameChoices L (lent a list (classesLeft L))
+  choices-left a list e = by-classes L (classesLeft L) (lent a list (classesLeft L)) (left-at L slice tests a list e) same-choices
 
   -- "Every width handed upward is therefore between 1 and 4,096, and whoever receives one may use it" (02, 2.8)
   pub handed : AreWidths (widthsOfSource L) × AreWidths (widthsOfTarget L)

@@ -6,7 +6,7 @@ use lib.ListN.{length}
 use Rattle.answers.specs.Result.{toldOf}
 use Rattle.rows.specs.Row.{MAX}
 use Rattle.lowering.specs.Lowering.{Lowering, lowering}
-use Rattle.gilfrunt.proofs.Sound.{check-sound}
+use Rattle.gilfrunt.proofs.Sound.{check-means}
 use borrow.Author.Needs.{needs}
 use Rattle.gilfrunt.proofs.gilfrunt_check.Statement.{statement}
 use Rattle.gilfrunt.proofs.gilfrunt_check.Tie as tie
@@ -56,7 +56,7 @@ returns c =
     let o = call c .check .ensures in
     let s = entry (read (call c)) in
     let k = s .args in
-    (rw w (ap toldOf o), check-sound _ _ w (k .ws0 .now) (k .ws1 .now) (k .classes .now) (k .entries .now) _ (input s) (slice s) o)
+    (rw w (ap toldOf o), check-means _ _ w (k .ws0 .now) (k .ws1 .now) (k .classes .now) (k .entries .now) _ _ _ _ (input s) (slice s) o)
 
 pub gilfrunt-check-spec : {M : Type 1} → statement M
 gilfrunt-check-spec =

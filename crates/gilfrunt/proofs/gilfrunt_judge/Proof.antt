@@ -5,7 +5,7 @@ use native.Mathlib.Omega.{arith}
 use lib.ListN.{length}
 use Rattle.answers.specs.Result.{toldOf}
 use Rattle.rows.specs.Row.{MAX}
-use Rattle.gilfrunt.proofs.Sound.{book-sound}
+use Rattle.gilfrunt.proofs.Sound.{book-means}
 use borrow.Author.Needs.{needs}
 use Rattle.gilfrunt.proofs.gilfrunt_judge.Statement.{statement}
 use Rattle.gilfrunt.proofs.gilfrunt_judge.Tie as tie
@@ -51,7 +51,7 @@ returns c =
     let o = call c .judge .ensures in
     let s = entry (lent (call c)) in
     let k = s .args in
-    (rw w (ap toldOf o), book-sound _ _ w (k .ws0 .now) (k .ws1 .now) (k .classes .now) (k .entries .now) _ (k .book .now) (k .words .now) (slice s) o)
+    (rw w (ap toldOf o), book-means _ _ w (k .ws0 .now) (k .ws1 .now) (k .classes .now) (k .entries .now) _ _ _ _ (k .book .now) (k .words .now) (slice s) o)
 
 pub gilfrunt-judge-spec : {M : Type 1} → statement M
 gilfrunt-judge-spec =

@@ -3,7 +3,7 @@ use mathlib.Core.Path.{ap, _∙_}
 use native.Mathlib.Omega.{arith}
 use Rattle.answers.specs.Result.{Result}
 use Rattle.judge.proofs.Room.{too-long, verdict-is}
-use Rattle.judge.proofs.Sound.{verdict-sound}
+use Rattle.judge.proofs.Sound.{verdict-means}
 use borrow.Author.Needs.{needs}
 use Rattle.judge.proofs.verdict.Statement.{statement}
 use Rattle.judge.proofs.verdict.Tie as tie
@@ -12,7 +12,7 @@ returns : tie.Need-returns
 returns c =
     let s = c .before .before in
     let e = too-long (s .args .book .now) (c .if1 .taken) in
-    (e, verdict-sound (s .args .book .now) (omega (arith, s .good .0)) _ e)
+    (e, verdict-means (s .args .book .now) (omega (arith, s .good .0)) _ e)
 
 slice-aggregate-judge : tie.Need-slice-aggregate-judge
 slice-aggregate-judge c = search needs
@@ -38,7 +38,7 @@ returns-2 c =
     let t = k .before .before .before .before .before .before in
     let s = t .before .before in
     let e = ap (λ (o : Result). o .answer) (k .judge .ensures) ∙ verdict-is (s .args .book .now) _ _ _ _ _ (omega arith) (omega arith) (omega arith) (omega arith) (omega arith) (t .if1 .left) in
-    (e, verdict-sound (s .args .book .now) (omega (arith, s .good .0)) _ e)
+    (e, verdict-means (s .args .book .now) (omega (arith, s .good .0)) _ e)
 
 pub verdict-spec : {M : Type 1} → statement M
 verdict-spec =

@@ -4,7 +4,7 @@ use borrow.Author.Needs.{needs}
 use Rattle.answers.specs.declared.Answer.{Answer}
 use Rattle.answers.specs.Answer.{wordsOf}
 use Rattle.line.specs.Line.{lineOf}
-use Rattle.printed.proofs.Sound.{line-sound}
+use Rattle.printed.proofs.Sound.{line-means}
 use Rattle.printed.proofs.verdict_line.Statement.{statement}
 use Rattle.printed.proofs.verdict_line.Tie as tie
 
@@ -22,7 +22,11 @@ returns c =
     let k = c .before .before .before in
     let v = k .verdict .ensures in
     let l = c .write-line .ensures .1 ∙ ap lineOf (c .before .before .words-of .ensures) in
-    (c .write-line .ensures .0, (l ∙ ap (λ (a : Answer). lineOf (wordsOf a)) (v .0), line-sound (k .before .before .args .book .now) _ (k .verdict .result) l (v .1)))
+    let r = k .verdict .result in
+    (
+      c .write-line .ensures .0,
+      (l ∙ ap (λ (a : Answer). lineOf (wordsOf a)) (v .0), (line-means _ _ r l (v .1 .0), line-means _ _ r l (v .1 .1))),
+    )
 
 pub verdict-line-spec : {M : Type 1} → statement M
 verdict-line-spec = tie.close (tie.spec verdict-requires words-of-requires write-line-requires returns)
