@@ -1,4 +1,5 @@
--- Number 0 is acceptance, and what is accepted is sound and leaves the same choices: the contracts of Check's and judge's code joined with the theorem. Assumes nothing.
+-- Number 0 is acceptance, and what is accepted is sound and leaves the same choices: the contracts of Check's and judge's code joined with the
+-- theorems. Assumes nothing.
 use Prim.Native.Nat.{ℕ, _≤_}
 use mathlib.Core.Path.{_≡_, sym, ap, _∙_}
 use mathlib.Core.Bool.{true}

@@ -18,7 +18,8 @@ use Rattle.lowering.specs.Images.{mapAt}
 use Rattle.lowering.specs.Lowering.{Lowering, sourceRows, targetRows}
 use Rattle.soundness.specs.Sound.{ImagesAgree, SourceTrue, TargetTrue}
 use Rattle.soundness.specs.Transfer.{assignment, interpretation}
-use Rattle.soundness.specs.Choices.{Within, UnmappedVar, classesLeft, ClassZeroVar, AgreesOnMapped, AgreesOnImages, AgreesOnUnmapped, AgreesOnClassZero, SameChoices}
+use Rattle.soundness.specs.Choices.{Within, UnmappedVar, classesLeft, ClassZeroVar, SameChoices}
+use Rattle.soundness.specs.Choices.{AgreesOnMapped, AgreesOnImages, AgreesOnUnmapped, AgreesOnClassZero}
 use Rattle.soundness.specs.Passed.{Passed}
 use Rattle.soundness.proofs.Facts.{Formed, Matched}
 use Rattle.soundness.proofs.Formed.{formed}

@@ -1,13 +1,14 @@
 -- 2.5 on closed lowerings: a variable of class 0, an unmapped variable, roots that leave one value, no roots; and three that Check refuses, where
 -- the choices are not the same. Assumes nothing.
-use Prim.Native.Nat.{ℕ, zero, suc, _<_, _≤_, _^_}
+use Prim.Native.Nat.{ℕ, zero, suc, _<_, _^_}
 use mathlib.Core.Path.{_≡_, refl, sym, ap, _∙_, subst}
 use mathlib.Core.Bool.{Bool, true, false, cond}
 use mathlib.Core.Logic.{_↔_}
 use mathlib.Core.List.{List, [], _∷_, map}
 use native.Mathlib.Omega.{arith}
-use borrow.Author.Tests.{eq-eqb, eqb-true}
+use borrow.Author.Tests.{eqb-true}
 use lib.Dec.{eqb}
+use lib.ListN.{getD}
 use lib.Pow.{pow-pos}
 use Rattle.answers.specs.Answer.{words, wordsOf}
 use Rattle.bv.specs.Bits.{ofBits, ofBool}
@@ -16,11 +17,11 @@ use Rattle.lists.specs.First.{first}
 use Rattle.lists.specs.Tests.{all, agree}
 use Rattle.lists.specs.Trace.{trace}
 use Rattle.lists.proofs.Choice.{no-way}
-use Rattle.rows.specs.declared.Graph.the-variants.{Source, Target}
+use Rattle.rows.specs.declared.Graph.the-variants.{Source}
 use Rattle.rows.specs.declared.Node.the-variants.{Var}
 use Rattle.rows.specs.Node.{nodeOf}
 use Rattle.rows.specs.Row.{MAX, rowAt}
-use Rattle.rules.specs.Rule.{cellWidth}
+use Rattle.value.specs.Val.{Val}
 use Rattle.value.specs.Operate.{operate}
 use Rattle.meaning.specs.Meaning.{Interpretation, OfKind, RootsTrue, stored}
 use Rattle.lowering.specs.Images.{rowIs, bothConst, sameConst, unequalConst}
@@ -31,7 +32,7 @@ use Rattle.lowering.specs.Lowering.{Lowering, lowering}
 use Rattle.lowering.specs.Check.{firstRefusal, checkAnswer}
 use Rattle.soundness.specs.Sound.{Accepts, valueOfSource, valueOfTarget, SourceTrue, TargetTrue}
 use Rattle.soundness.specs.Choices.{Within, AgreeOn, MappedVar, UnmappedVar, ClassZeroVar, classesLeft, OpenInSource, OpenInTarget, SameChoices}
-use Rattle.soundness.proofs.Accepted.{zeros, zero-interpretation, zero-fits}
+use Rattle.soundness.proofs.Accepted.{zeros, zero-interpretation, zeros-fit, zero-fits}
 use Rattle.soundness.proofs.Model.{widthOf}
 use Rattle.soundness.proofs.Theorem.{same-choices}
 
@@ -40,9 +41,22 @@ use Rattle.soundness.proofs.Theorem.{same-choices}
 abbrev scan : List ℕ → Lowering
 scan roots =
     lowering
-    (0 ∷ 8 ∷ 0 ∷ 0 ∷ 0 ∷ 0 ∷ 32 ∷ 0 ∷ 0 ∷ 0 ∷ 37 ∷ 7 ∷ 1 ∷ 0 ∷ 0 ∷ 19 ∷ 0 ∷ 2 ∷ 0 ∷ 0 ∷ 1 ∷ 0 ∷ 8 ∷ 0 ∷ 0 ∷ 19 ∷ 2 ∷ 4 ∷ 0 ∷ 0 ∷ 0 ∷ 8 ∷ 0 ∷ 0 ∷ 0 ∷ []) bits []
-    roots (0 ∷ 1 ∷ 2 ∷ 3 ∷ 4 ∷ 5 ∷ MAX ∷ []) (2 ∷ 7 ∷ 1 ∷ []) [] []
-    (0 ∷ 8 ∷ 0 ∷ 0 ∷ 0 ∷ 32 ∷ 0 ∷ 0 ∷ 0 ∷ 8 ∷ 0 ∷ 0 ∷ 19 ∷ 0 ∷ 2 ∷ 0 ∷ 1 ∷ 0 ∷ 8 ∷ 0 ∷ 19 ∷ 2 ∷ 4 ∷ 0 ∷ 0 ∷ 8 ∷ 0 ∷ 0 ∷ []) bits roots
+    (0 ∷ 8 ∷ 0 ∷ 0 ∷ 0
+    ∷ 0 ∷ 32 ∷ 0 ∷ 0 ∷ 0
+    ∷ 37 ∷ 7 ∷ 1 ∷ 0 ∷ 0
+    ∷ 19 ∷ 0 ∷ 2 ∷ 0 ∷ 0
+    ∷ 1 ∷ 0 ∷ 8 ∷ 0 ∷ 0
+    ∷ 19 ∷ 2 ∷ 4 ∷ 0 ∷ 0
+    ∷ 0 ∷ 8 ∷ 0 ∷ 0 ∷ 0
+    ∷ []) bits [] roots (0 ∷ 1 ∷ 2 ∷ 3 ∷ 4 ∷ 5 ∷ MAX ∷ []) (2 ∷ 7 ∷ 1 ∷ []) [] []
+    (0 ∷ 8 ∷ 0 ∷ 0
+    ∷ 0 ∷ 32 ∷ 0 ∷ 0
+    ∷ 0 ∷ 8 ∷ 0 ∷ 0
+    ∷ 19 ∷ 0 ∷ 2 ∷ 0
+    ∷ 1 ∷ 0 ∷ 8 ∷ 0
+    ∷ 19 ∷ 2 ∷ 4 ∷ 0
+    ∷ 0 ∷ 8 ∷ 0 ∷ 0
+    ∷ []) bits roots
   where
     bits : List ℕ
     bits = 1 ∷ 0 ∷ 1 ∷ 0 ∷ 0 ∷ 0 ∷ 0 ∷ 0 ∷ []
@@ -54,14 +68,10 @@ five = scan (3 ∷ 5 ∷ [])
 abbrev room : List ℕ
 room = 0 ∷ 0 ∷ 0 ∷ 0 ∷ 0 ∷ 0 ∷ 0 ∷ []
 
--- no roots; the roots x = s and s = 5
-accepted : Accepts (scan []) room room room room × Accepts five room room room room
-unfolding firstRefusal build first all agree trace rowIs bothConst sameConst unequalConst sameRead sameFunction sameCall readGood callGood isEq isLevel walk endGood callMatches varMatches nodeMatches rowAnswer rowClasses leads pairsWith pairs readsNeed allEqual congruent rootAt
-accepted = (refl, refl)
-
-left : classesLeft (scan []) ≡ 1 ∷ 1 ∷ 4 ∷ 0 ∷ 0 ∷ 0 ∷ 0 ∷ []
-unfolding firstRefusal build first all agree trace rowIs bothConst sameConst unequalConst sameRead sameFunction sameCall readGood callGood isEq isLevel walk endGood callMatches varMatches nodeMatches rowAnswer rowClasses leads pairsWith pairs readsNeed allEqual congruent rootAt
-left = refl
+accepted : Accepts (scan []) room room room room × Accepts five room room room room × (classesLeft five ≡ 1 ∷ 1 ∷ 4 ∷ 0 ∷ 0 ∷ 0 ∷ 0 ∷ [])
+unfolding firstRefusal build first all agree trace rowIs bothConst sameConst unequalConst sameRead sameFunction sameCall readGood callGood isEq
+    isLevel walk endGood callMatches varMatches nodeMatches rowAnswer rowClasses leads pairsWith pairs readsNeed allEqual congruent rootAt
+accepted = (refl, refl, refl)
 
 -- numbers for rows 0, 1 and 6: x, a and y in the source, their images and z in the target
 abbrev pick : ℕ → ℕ → ℕ → ℕ → ℕ
@@ -113,7 +123,11 @@ module _ (roots : List ℕ) (x a y b : ℕ) (hx : x < 2 ^ 8) (ha : a < 2 ^ 32) (
   by-byte : RootsTrue (valueOfSource (scan roots) (holding b (pick x a y))) roots → OpenInSource (scan roots) (pick x a 0) (pick 0 0 y)
   by-byte t = (holding b (pick x a y), (kinds, t), pick-mapped x a y, pick-unmapped x a y)
 
--- a true Eq, and one of equal numbers
+-- no roots are true
+none : (values : ℕ → Val) → RootsTrue values []
+none values k h = absurd (omega arith)
+
+-- a true Eq has equal numbers
 eq-says : (m n : ℕ) (t : Bool) → eqb m n ≡ t → eqb (ofBool t) 1 ≡ true → m ≡ n
 eq-says m n true e h = eqb-true m n e
 eq-says m n false e h = no-way (sym h)
@@ -122,7 +136,8 @@ eq-says m n false e h = no-way (sym h)
 roots-say : (I : Interpretation) → RootsTrue (valueOfSource five I) (3 ∷ 5 ∷ []) → I .variable 0 ≡ 5
 unfolding build operate ofBits stored
 roots-say I t =
-    eq-says (I .variable 0) (I .array 7 (I .variable 1)) _ refl (t 0 (omega arith)) ∙ eq-says (I .array 7 (I .variable 1)) 5 _ refl (t 1 (omega arith))
+    eq-says (I .variable 0) (I .array 7 (I .variable 1)) _ refl (t 0 (omega arith))
+    ∙ eq-says (I .array 7 (I .variable 1)) 5 _ refl (t 1 (omega arith))
 
 roots-hold : (a y : ℕ) → RootsTrue (valueOfSource five (holding 5 (pick 5 a y))) (3 ∷ 5 ∷ [])
 unfolding build operate ofBits stored
@@ -148,7 +163,7 @@ same roots accepts x a y z hy hz =
 no-roots : (x a z : ℕ) → x < 2 ^ 8 → a < 2 ^ 32 → z < 2 ^ 8 → OpenInTarget (scan []) (classesLeft (scan [])) (pick x a 0) (pick 0 0 z)
 no-roots x a z hx ha hz =
     let (f, _) = same [] (accepted .0) x a 0 z (omega arith) hz in
-    f (by-byte [] x a 0 0 hx ha (omega arith) (omega arith) (λ k h. let g : ⊥ = omega arith in absurd g))
+    f (by-byte [] x a 0 0 hx ha (omega arith) (omega arith) (none (valueOfSource (scan []) (holding 0 (pick x a 0)))))
 
 -- Roots that leave one value: x is 5 and nothing else, whatever is fixed for a, y and z. In the source, and so in the target
 module _ (x a : ℕ) (ha : a < 2 ^ 32) where
@@ -166,10 +181,9 @@ module _ (x a : ℕ) (ha : a < 2 ^ 32) where
 
 -- A variable of class 0: the assignment has for z what was fixed for it
 class-zero : (z : ℕ) → z < 2 ^ 8 → (A : ℕ → ℕ) × TargetTrue five A × (A 0 ≡ 5) × (A 6 ≡ z)
-unfolding firstRefusal build first all agree trace rowIs bothConst sameConst unequalConst sameRead sameFunction sameCall readGood callGood isEq isLevel walk endGood callMatches varMatches nodeMatches rowAnswer rowClasses leads pairsWith pairs readsNeed allEqual congruent rootAt
 class-zero z hz =
     let (A, t, i, q) = five-in-target 5 0 (omega arith) z hz .1 refl in
-    (A, t, i 0 8 ((omega arith, λ e. omega arith), refl), q 6 8 (omega arith, refl, refl))
+    (A, t, i 0 8 ((omega arith, λ e. omega arith), refl), q 6 8 (omega arith, ap (λ (l : List ℕ). getD l 6 0) (accepted .2), refl))
 
 -- An unmapped variable: from an assignment, which knows nothing of y, an interpretation with what was fixed for it
 unmapped : (y : ℕ) → y < 2 ^ 8 → (I : Interpretation) × SourceTrue five I × (I .variable 0 ≡ 5) × (I .variable 6 ≡ y)
@@ -190,26 +204,30 @@ abbrev by-image : Lowering
 by-image =
     lowering (0 ∷ 1 ∷ 0 ∷ 0 ∷ 0 ∷ 0 ∷ 1 ∷ 0 ∷ 0 ∷ 0 ∷ []) [] [] (0 ∷ []) (1 ∷ 0 ∷ []) [] [] [] (0 ∷ 1 ∷ 0 ∷ 0 ∷ 0 ∷ 1 ∷ 0 ∷ 0 ∷ []) [] (0 ∷ [])
 
-refused : map (λ (L : Lowering). wordsOf (checkAnswer L 7 7 7 7)) (by-unmapped ∷ by-class-zero ∷ by-image ∷ []) ≡ words 12 0 0 ∷ words 12 0 0 ∷ words 12 0 0 ∷ []
-unfolding firstRefusal build first all agree trace rowIs bothConst sameConst unequalConst sameRead sameFunction sameCall readGood callGood isEq isLevel walk endGood callMatches varMatches nodeMatches rowAnswer rowClasses leads pairsWith pairs readsNeed allEqual congruent rootAt
+refused : map (λ (L : Lowering). wordsOf (checkAnswer L 7 7 7 7)) (by-unmapped ∷ by-class-zero ∷ by-image ∷ [])
+    ≡ words 12 0 0 ∷ words 12 0 0 ∷ words 12 0 0 ∷ []
+unfolding firstRefusal build first all agree trace rowIs bothConst sameConst unequalConst sameRead sameFunction sameCall readGood callGood isEq
+    isLevel walk endGood callMatches varMatches nodeMatches rowAnswer rowClasses leads pairsWith pairs readsNeed allEqual congruent rootAt
 refused = refl
 
 unmapped-decides : SameChoices by-unmapped [] → ⊥
 unfolding build
 unmapped-decides choices =
     let (_, g) = choices zeros zeros zeros (λ i w v. pow-pos w) (λ r w v. pow-pos w) in
-    let (I, (k, t), m, p) = g (zeros, (λ r w h e. pow-pos w, λ n h. let f : ⊥ = omega arith in absurd f), λ i w v. refl, λ r w v. refl) in
+    let true-roots = none (valueOfTarget by-unmapped zeros) in
+    let (I, (k, t), m, p) = g (zeros, (zeros-fit by-unmapped, true-roots), λ i w v. refl, λ r w v. refl) in
     let one : I .variable 0 ≡ 1 = eqb-true _ _ (t 0 (omega arith)) in
-    let none : I .variable 0 ≡ 0 = p 0 1 (omega arith, refl, refl) in
+    let nought : I .variable 0 ≡ 0 = p 0 1 (omega arith, refl, refl) in
     omega arith
 
 class-zero-decides : SameChoices by-class-zero (0 ∷ []) → ⊥
 unfolding build
 class-zero-decides choices =
     let (f, _) = choices zeros zeros zeros (λ i w v. pow-pos w) (λ r w v. pow-pos w) in
-    let (A, (k, t), m, q) = f (zero-interpretation, (zero-fits by-class-zero, λ n h. let f : ⊥ = omega arith in absurd f), λ i w v. refl, λ i w v. refl) in
+    let true-roots = none (valueOfSource by-class-zero zero-interpretation) in
+    let (A, (k, t), m, q) = f (zero-interpretation, (zero-fits by-class-zero, true-roots), λ i w v. refl, λ i w v. refl) in
     let one : A 0 ≡ 1 = eqb-true _ _ (t 0 (omega arith)) in
-    let none : A 0 ≡ 0 = q 0 1 (omega arith, refl, refl) in
+    let nought : A 0 ≡ 0 = q 0 1 (omega arith, refl, refl) in
     omega arith
 
 -- u is 1 for the first variable and 0 for the second
@@ -223,7 +241,7 @@ image-decides choices =
     let (f, _) = choices first-only first-only zeros (λ i w (h, k, e). fits i w e) (λ r w v. pow-pos w) in
     let (A, (k, t), m, q) = f (holding 0 first-only, (kind, root), λ i w v. refl, λ i w v. refl) in
     let one : A 0 ≡ 1 = eqb-true _ _ (t 0 (omega arith)) in
-    let none : A 0 ≡ 0 = m 1 1 ((omega arith, λ e. omega arith), refl) in
+    let nought : A 0 ≡ 0 = m 1 1 ((omega arith, λ e. omega arith), refl) in
     omega arith
   where
     fits : (i w : ℕ) → nodeOf (rowAt Source (by-image .source .rows) i) ≡ Var w → first-only i < 2 ^ w
