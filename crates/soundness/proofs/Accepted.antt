@@ -14,18 +14,19 @@ use Rattle.rules.specs.Rule.{cellWidth}
 use Rattle.value.specs.Graph.{Assigns}
 use Rattle.meaning.specs.Meaning.{Interpretation, OfKind}
 use Rattle.rows.specs.Row.{MAX}
+use Rattle.rows.specs.Tags.{either}
 use Rattle.lowering.specs.Images.{mapAt}
 use Rattle.lowering.specs.Lowering.{Lowering, sourceRows, targetRows}
 use Rattle.soundness.specs.Sound.{ImagesAgree, SourceTrue, TargetTrue}
 use Rattle.soundness.specs.Transfer.{assignment, interpretation}
-use Rattle.soundness.specs.Choices.{Within, UnmappedVar, classesLeft, ClassZeroVar, SameChoices}
+use Rattle.soundness.specs.Choices.{Within, MappedVar, UnmappedVar, classesLeft, ClassZeroVar, SameChoices}
 use Rattle.soundness.specs.Choices.{AgreesOnMapped, AgreesOnImages, AgreesOnUnmapped, AgreesOnClassZero}
 use Rattle.soundness.specs.Passed.{Passed}
 use Rattle.soundness.proofs.Facts.{Formed, Matched}
 use Rattle.soundness.proofs.Formed.{formed}
 use Rattle.soundness.proofs.Classes.{classes-length}
 use Rattle.soundness.proofs.Found.{of-row}
-use Rattle.soundness.proofs.Owners.{owned-class, of-read, of-call, one-owner}
+use Rattle.soundness.proofs.Owners.{owned-class, chosen-class, of-read, of-call, one-owner}
 use Rattle.soundness.proofs.RootFacts.{within, of-root, cong-read, cong-call, only}
 use Rattle.soundness.proofs.Forward.{at-var, at-free, assignment-fits, forward-agree, forward-roots}
 use Rattle.soundness.proofs.Backward.{variable-at, interpretation-fits, backward-agree, backward-roots}
@@ -127,6 +128,12 @@ module _ (L : Lowering) (slice : length (L .target .rows) ≤ MAX) (tests : Pass
 
   pub interpreted-unmapped : (A : ℕ → ℕ) (J : Interpretation) → AgreesOnUnmapped L (interpretation L A J) (J .variable)
   interpreted-unmapped A J i w (h, k, e) = variable-at L A J i ∙ rw (le-ltb (mapAt (L .map) i) (targetRows L) (omega (arith, small)))
+
+  -- what neither fixes is of class 4 or 5
+  pub chosen-rows : (r : ℕ) → r < targetRows L → (getD (classesLeft L) r 0 ≡ 0 → ⊥)
+      → ((i w : ℕ) → MappedVar L i w → mapAt (L .map) i ≡ r → ⊥) → either (getD (classesLeft L) r 0) 4 5 ≡ true
+  chosen-rows r h taken no-image =
+      chosen-class L tests graphs small r h taken (λ i ((l, k), (w, e), q). no-image i w ((l, λ z. omega (arith, small)), e) q)
 
   -- a list that an accepting operation leaves begins with the classes
   pub left-at : (a : Answer) (cls : List ℕ) → isAccepted a ≡ true → (r : ℕ) → r < targetRows L

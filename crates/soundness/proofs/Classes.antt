@@ -2,7 +2,7 @@
 use Prim.Native.Nat.{ℕ, zero, suc, _+_, _<_, _≤_}
 use mathlib.Core.Path.{_≡_, refl, sym, ap, _∙_, subst}
 use mathlib.Core.Bool.{Bool, true, false, cond}
-use mathlib.Core.Logic.{⊎-elim}
+use mathlib.Core.Logic.{_⊎_, inl, inr, ⊎-elim}
 use mathlib.Core.List.{List}
 use native.Mathlib.Nat.{eq-or-lt-of-le}
 use native.Mathlib.Omega.{arith}
@@ -37,6 +37,18 @@ use Rattle.soundness.proofs.Tables.{tables-length, ReadAt, CallAt, clas
 -- what a class is of: 0 nothing or a variable, 2 a read, 3 a call
 unfoldable pub kind : ℕ → ℕ
 kind c = cond (either c 2 4) 2 (cond (either c 3 5) 3 0)
+
+-- a read's or a call's class that is no longer 2 or 3 is 4 or 5
+pub kind-end : (c : ℕ) → 0 < kind c → either c 2 3 ≡ false → either c 4 5 ≡ true
+unfolding kind
+kind-end c k h = go (eqb c 2) (eqb c 4) (eqb c 3) (eqb c 5) k h
+  where
+    go : (p q r s : Bool) → 0 < cond (cond p true q) 2 (cond (cond r true s) 3 0) → cond p true r ≡ false → cond q true s ≡ true
+    go true q r s k h = no-way h
+    go false q true s k h = no-way h
+    go false true false s k h = refl
+    go false false false true k h = refl
+    go false false false false k h = absurd (omega arith)
 
 -- an accepted match has passed its test
 pub test-of : (b : Bool) (a : Answer) → isAccepted a ≡ false → isAccepted (matched b a) ≡ true → b ≡ true
@@ -75,7 +87,7 @@ module _ (L : Lowering) where
   -- the class of target row r, before and after a source row
   pub data Turns (r c d : ℕ) : Type 0 where
     stays : d ≡ c → Turns r c d
-    to-var : c ≡ 0 → d ≡ 1 → Turns r c d
+    to-var : c ≡ 0 → d ≡ 1 → Used r → Turns r c d
     to-read : kind c ≡ 2 → d ≡ 4 → Used r → Turns r c d
     to-call : kind c ≡ 3 → d ≡ 5 → Used r → Turns r c d
 
@@ -83,23 +95,30 @@ module _ (L : Lowering) where
   pub turn-kind : (r c d : ℕ) → Turns r c d → kind d ≡ kind c
   unfolding kind
   turn-kind r c d (stays e) = ap kind e
-  turn-kind r c d (to-var e f) = rw (e, f)
+  turn-kind r c d (to-var e f x) = rw (e, f)
   turn-kind r c d (to-read k e x) = rw e (sym k)
   turn-kind r c d (to-call k e x) = rw e (sym k)
 
   pub turn-one : (r c d : ℕ) → Turns r c d → c ≡ 1 → d ≡ 1
   unfolding kind
   turn-one r c d (stays e) h = e ∙ h
-  turn-one r c d (to-var e f) h = f
+  turn-one r c d (to-var e f x) h = f
   turn-one r c d (to-read k e x) h = let z : _≡_ {A = ℕ} 0 2 = rw h at k in absurd (omega arith)
   turn-one r c d (to-call k e x) h = let z : _≡_ {A = ℕ} 0 3 = rw h at k in absurd (omega arith)
 
   -- a class that has left 2 and 3 is that of a row in use
   pub turn-live : (r c d : ℕ) → Turns r c d → (either c 2 3 ≡ false → Used r) → either d 2 3 ≡ false → Used r
   turn-live r c d (stays e) f h = f (rw e at h)
-  turn-live r c d (to-var e g) f h = f (rw e)
+  turn-live r c d (to-var e g x) f h = x
   turn-live r c d (to-read k e x) f h = x
   turn-live r c d (to-call k e x) f h = x
+
+  -- so is a class that has left 0 and 2 and 3
+  pub turn-used : (r c d : ℕ) → Turns r c d → (c ≡ 0) ⊎ (either c 2 3 ≡ false → Used r) → (d ≡ 0) ⊎ (either d 2 3 ≡ false → Used r)
+  turn-used r c d (stays e) f = rw e f
+  turn-used r c d (to-var e g x) f = inr (λ h. x)
+  turn-used r c d (to-read k e x) f = inr (λ h. x)
+  turn-used r c d (to-call k e x) f = inr (λ h. x)
 
   -- what is noted before row i; the answer and the classes of a node there
   abbrev pub notedAt : ℕ → Noted
@@ -161,7 +180,7 @@ module _ (L : Lowering) {N : ℕ} (E : Reached L N) where
       → (r : ℕ) → Turns L r (getD (classes L i) r 0) (getD (kindClasses (bindingOf L) (classes L i) (m L i) kind) r 0)
   turn-kinds i (h, u) (var w) n e r =
       set-holds (Turns L r (getD (classes L i) r 0)) (classes L i) (m L i) 1 r (rw (classes-length i) u) (stays refl)
-      (λ q. to-var (rw q at (var-passed L i w e .1)) refl)
+      (λ q. to-var (rw q at (var-passed L i w e .1)) refl (i, ((h, u), ap (usedBy L (m L i)) n ∙ q)))
   turn-kinds i x (select a j s k) n e r =
       turn-end i a j x (walkOf L j k s (m L i)) (ap (usedBy L (m L i)) n) (test-of _ (ChainMismatch i) refl e) r
   turn-kinds i (h, u) (call f w s k) n e r =

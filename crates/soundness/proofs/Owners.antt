@@ -2,6 +2,7 @@
 use Prim.Native.Nat.{ℕ, suc, _+_, _*_, _<_, _≤_}
 use mathlib.Core.Path.{_≡_, refl, sym, ap, _∙_, subst}
 use mathlib.Core.Bool.{true, false}
+use mathlib.Core.Logic.{_⊎_, inl, inr, ⊎-elim}
 use native.Mathlib.Omega.{arith}
 use borrow.Author.Tests.{ne-eqb}
 use lib.ListN.{length, getD}
@@ -23,8 +24,9 @@ use Rattle.lowering.specs.Check.{widthsOfSource, classesOfTables, classes, offs
 use Rattle.soundness.proofs.Facts.{S, m, Mapped, Image, Formed, Ends, walkOf, Found, ReadEntry, CallEntry, Owner, by-var, by-read, by-call, Owns}
 use Rattle.soundness.specs.Passed.{Passed}
 use Rattle.soundness.proofs.Marks.{in-no-order}
-use Rattle.soundness.proofs.Tables.{read-facts, call-facts, read-index, class-of-read, offset-of-read, class-of-call, offset-of-call}
-use Rattle.soundness.proofs.Classes.{kind, usedEnd, usedAt, Uses, Used, turn-one, turn-live, answerAt, classesAt, var-passed, classes-length, mapped-passed, rows-hold, kind-stays}
+use Rattle.soundness.proofs.Tables.{ReadAt, CallAt, class-from, read-facts, call-facts, read-index, class-of-read, offset-of-read, class-of-call, offset-of-call}
+use Rattle.soundness.proofs.Classes.{kind, kind-end, usedEnd, usedAt, Uses, Used, turn-one, turn-live, turn-used, answerAt, classesAt}
+use Rattle.soundness.proofs.Classes.{var-passed, classes-length, mapped-passed, rows-hold, kind-stays}
 use Rattle.soundness.proofs.Found.{of-row}
 
 module _ (L : Lowering) where
@@ -154,6 +156,32 @@ module _ (L : Lowering) (P : Passed L) (F : Formed L) (small : targetRows L ≤ 
   entry-used r h e =
       rows-hold L (P .reached) (λ c. either c 2 3 ≡ false → Used L r) r 0 (sourceRows L) (turn-live L r) (omega arith) (omega arith)
       (λ z. no-way (sym e ∙ z)) (P .live r h)
+
+  -- a row of the target is in use or of class 0 in the end
+  used-or-free : (r : ℕ) → r < targetRows L → (getD (classes L (sourceRows L)) r 0 ≡ 0) ⊎ Used L r
+  unfolding trace
+  used-or-free r h =
+      ⊎-elim inl (λ f. inr (f (P .live r h)))
+      (rows-hold L (P .reached) (λ c. (c ≡ 0) ⊎ (either c 2 3 ≡ false → Used L r)) r 0 (sourceRows L) (turn-used L r) (omega arith) (omega arith)
+      (⊎-elim inl (λ x. inr (λ e. no-way (sym (entry x) ∙ e))) (class-from L (P .reached) r h)))
+    where
+      entry : ReadAt L r ⊎ CallAt L r → either (getD (classesOfTables L) r 0) 2 3 ≡ true
+      entry = ⊎-elim (λ (q, l, v). rw (← v, class-of-read L (P .reached) q l)) (λ (q, l, v). rw (← v, class-of-call L (P .reached) q l))
+
+  -- one in use that is no variable's image is of class 4 or 5
+  pub chosen-class : (r : ℕ) → r < targetRows L → (getD (classes L (sourceRows L)) r 0 ≡ 0 → ⊥) → ((i : ℕ) → Owns L (by-var i) r → ⊥)
+      → either (getD (classes L (sourceRows L)) r 0) 4 5 ≡ true
+  chosen-class r h taken no-image = ⊎-elim (λ z. absurd (taken z)) (λ (i, u). go (use-owner i r h u)) (used-or-free r h)
+    where
+      entry : (o : Owner) → Owns L o r → 0 < kindOf o → either (getD (classes L (sourceRows L)) r 0) 4 5 ≡ true
+      entry o x k =
+          let e : kind (getD (classes L (sourceRows L)) r 0) ≡ kindOf o = kind-stays L (P .reached) r (sourceRows L) (omega arith) ∙ owner-kind o r x in
+          kind-end (getD (classes L (sourceRows L)) r 0) (omega arith) (P .live r h)
+
+      go : {i : ℕ} → OwnedBy L i r → either (getD (classes L (sourceRows L)) r 0) 4 5 ≡ true
+      go (by-var i, x, _) = absurd (no-image i x)
+      go (by-read q, x, _) = entry (by-read q) x (omega arith)
+      go (by-call q, x, _) = entry (by-call q) x (omega arith)
 
   -- the variable of every owner is a row of the target that some row uses
   pub live : (o : Owner) (r : ℕ) → Owns L o r → (r < targetRows L) × Used L r

@@ -1,31 +1,32 @@
 -- READ THIS FIRST: what it means that Check accepts. The names are those of specs/ (Sound and crates/meaning: what graphs mean; Transfer: the
 -- assignment and the interpretation that are found) and of crates/lowering (Check: the operation's answer). docs/PROOF.md tells the argument.
 -- Assumes that Check accepts, whatever lists are lent, and that the target has no more words than a slice can have. Nothing else.
-use Prim.Native.Nat.{ℕ, _≤_}
+use Prim.Native.Nat.{ℕ, _<_, _≤_}
 use mathlib.Core.Path.{_≡_, _∙_}
 use mathlib.Core.Bool.{true}
 use mathlib.Core.Logic.{_↔_}
 use mathlib.Core.List.{List, []}
-use lib.ListN.{length}
+use lib.ListN.{length, getD}
 use Rattle.answers.specs.declared.Answer.{Answer}
 use Rattle.answers.specs.Answer.{isAccepted, lent}
 use Rattle.value.specs.Graph.{Assigns}
 use Rattle.meaning.specs.Meaning.{Interpretation, OfKind}
 use Rattle.rows.specs.declared.Graph.the-variants.{Source, Target}
 use Rattle.rows.specs.Row.{MAX}
+use Rattle.rows.specs.Tags.{either}
 use Rattle.wf.specs.Promise.{AreWidths}
 use Rattle.wf.proofs.Promise.{are-widths}
 use Rattle.lowering.specs.Images.{mapAt}
-use Rattle.lowering.specs.Lowering.{Lowering}
+use Rattle.lowering.specs.Lowering.{Lowering, targetRows}
 use Rattle.lowering.specs.Check.{widthsOfSource, widthsOfTarget}
 use Rattle.soundness.specs.Sound.{Accepts, Sound, ImagesAgree, SourceTrue, TargetTrue, SourceIsSatisfiable, TargetIsSatisfiable}
 use Rattle.soundness.specs.Transfer.{assignment, interpretation}
 use Rattle.soundness.specs.Choices.{classesLeft, AgreesOnMapped, AgreesOnImages, AgreesOnUnmapped, AgreesOnClassZero}
-use Rattle.soundness.specs.Choices.{OpenInSource, OpenInTarget, SameChoices}
+use Rattle.soundness.specs.Choices.{MappedVar, OpenInSource, OpenInTarget, SameChoices}
 use Rattle.soundness.specs.Passed.{Passed}
 use Rattle.soundness.proofs.Passed.{passed}
 use Rattle.soundness.proofs.Accepted.{zeros, zero-interpretation, zeros-fit, zero-fits, passed-forward, passed-backward}
-use Rattle.soundness.proofs.Accepted.{by-classes, left-at, assigned-image, assigned-free, interpreted-mapped, interpreted-unmapped}
+use Rattle.soundness.proofs.Accepted.{by-classes, left-at, chosen-rows, assigned-image, assigned-free, interpreted-mapped, interpreted-unmapped}
 use Rattle.soundness.proofs.Accepted.{in-class-zero, at-unmapped, class-zero-fits, class-zero-has, unmapped-fits, unmapped-has}
 
 module _ (L : Lowering) (ws0 ws1 cls ent : List ℕ) (slice : length (L .target .rows) ≤ MAX) (accepts : Accepts L ws0 ws1 cls ent) where
@@ -90,7 +91,12 @@ module _ (L : Lowering) (ws0 ws1 cls ent : List ℕ) (slice : length (L .target 
           let (mapped, free) = backward-at A given in
           (interpretation L A given, s, λ i w x. mapped i w x ∙ images i w x, λ i w x. free i w x ∙ unmapped-has L p i w x)
 
-  -- the same by the list of classes that an operation leaves with acceptance, zeros after the last row
+  -- What the target has then to choose: a row that is not of class 0 and no mapped variable's image is of class 4 or 5, a read's or a call's
+  pub chosen : (r : ℕ) → r < targetRows L → (getD (classesLeft L) r 0 ≡ 0 → ⊥) → ((i w : ℕ) → MappedVar L i w → mapAt (L .map) i ≡ r → ⊥)
+      → either (getD (classesLeft L) r 0) 4 5 ≡ true
+  chosen = chosen-rows L slice tests
+
+  -- the same choices by the list of classes that an operation leaves with acceptance, zeros after the last row
   pub choices-left : (a : Answer) (list : List ℕ) → isAccepted a ≡ true → SameChoices L (lent a list (classesLeft L))
   choices-left a list e = by-classes L (classesLeft L) (lent a list (classesLeft L)) (left-at L slice tests a list e) same-choices
 
