@@ -1,11 +1,10 @@
 -- What a lowering that has passed Check's tests gives: the facts about rows, entries and roots, and the two directions. Assumes nothing.
-use Prim.Native.Nat.{ℕ, _<_, _≤_, _^_}
-use mathlib.Core.Path.{_≡_, refl, sym, _∙_}
-use mathlib.Core.Bool.{Bool, true, false, cond}
+use Prim.Native.Nat.{ℕ, _<_, _≤_}
+use mathlib.Core.Path.{_≡_, _∙_}
+use mathlib.Core.Bool.{true}
 use mathlib.Core.List.{List}
 use native.Mathlib.Omega.{arith}
-use borrow.Author.Tests.{lt-ltb, le-ltb, eq-eqb, eqb-true}
-use lib.Dec.{eqb}
+use borrow.Author.Tests.{lt-ltb, le-ltb}
 use lib.ListN.{length, getD, List·getD-append}
 use lib.Pow.{pow-pos}
 use Rattle.answers.specs.declared.Answer.{Answer}
@@ -19,8 +18,7 @@ use Rattle.lowering.specs.Images.{mapAt}
 use Rattle.lowering.specs.Lowering.{Lowering, sourceRows, targetRows}
 use Rattle.soundness.specs.Sound.{ImagesAgree, SourceTrue, TargetTrue}
 use Rattle.soundness.specs.Transfer.{assignment, interpretation}
-use Rattle.soundness.specs.Choices.{Within, MappedVar, UnmappedVar, classesLeft, ClassZeroVar, SameChoices}
-use Rattle.soundness.specs.Choices.{AgreesOnMapped, AgreesOnImages, AgreesOnUnmapped, AgreesOnClassZero}
+use Rattle.soundness.specs.Choices.{MappedVar, classesLeft, AgreesOnMapped, AgreesOnImages, AgreesOnUnmapped, AgreesOnClassZero}
 use Rattle.soundness.specs.Passed.{Passed}
 use Rattle.soundness.proofs.Facts.{Formed, Matched}
 use Rattle.soundness.proofs.Formed.{formed}
@@ -44,43 +42,6 @@ module _ (L : Lowering) where
 
   pub zero-fits : OfKind zero-interpretation (L .source .rows)
   zero-fits = record { variables-fit = λ i w h e. pow-pos w; cells-fit = λ a x. pow-pos (cellWidth a); results-fit = λ f w vs. pow-pos w }
-
-  -- q at the rows of class 0, p at the unmapped rows, else 0
-  abbrev pub in-class-zero : List ℕ → (ℕ → ℕ) → ℕ → ℕ
-  in-class-zero cls q r = cond (eqb (getD cls r 0) 0) (q r) 0
-
-  abbrev pub at-unmapped : (ℕ → ℕ) → Interpretation
-  at-unmapped p = record { variable = λ i. cond (eqb (mapAt (L .map) i) MAX) (p i) 0; array = λ a x. 0; function = λ f w vs. 0 }
-
-  -- each fits, and agrees with what it was made of
-  below : (b : Bool) (x w : ℕ) → (b ≡ true → x < 2 ^ w) → cond b x 0 < 2 ^ w
-  below true x w h = h refl
-  below false x w h = pow-pos w
-
-  pub class-zero-fits : (cls : List ℕ) (q : ℕ → ℕ) → Within (ClassZeroVar L cls) q → Assigns (in-class-zero cls q) (L .target .rows)
-  class-zero-fits cls q fits r w h e = below _ (q r) w (λ t. fits r w (h, eqb-true _ _ t, e))
-
-  pub class-zero-has : (cls : List ℕ) (q : ℕ → ℕ) → AgreesOnClassZero L cls (in-class-zero cls q) q
-  class-zero-has cls q r w (h, c, e) = rw (eq-eqb _ _ c)
-
-  pub unmapped-fits : (p : ℕ → ℕ) → Within (UnmappedVar L) p → OfKind (at-unmapped p) (L .source .rows)
-  unmapped-fits p fits =
-      record {
-        variables-fit = λ i w h e. below _ (p i) w (λ t. fits i w (h, eqb-true _ _ t, e));
-        cells-fit = zero-fits .cells-fit;
-        results-fit = zero-fits .results-fit;
-      }
-
-  pub unmapped-has : (p : ℕ → ℕ) → AgreesOnUnmapped L (at-unmapped p) p
-  unmapped-has p i w (h, k, e) = rw (eq-eqb _ _ k)
-
-  -- lists of classes that are equal up to the last row have the same variables in class 0
-  pub by-classes : (cls left : List ℕ) → ((r : ℕ) → r < targetRows L → getD left r 0 ≡ getD cls r 0) → SameChoices L cls → SameChoices L left
-  by-classes cls left same choices u p q free-p free-q =
-      let (f, g) = choices u p q free-p (λ r w (h, c, e). free-q r w (h, same r h ∙ c, e)) in (
-        λ o. let (A, t, a, z) = f o in (A, t, a, λ r w (h, c, e). z r w (h, sym (same r h) ∙ c, e)),
-        λ (A, t, a, z). g (A, t, a, λ r w (h, c, e). z r w (h, same r h ∙ c, e)),
-      )
 
 module _ (L : Lowering) (slice : length (L .target .rows) ≤ MAX) (tests : Passed L) where
   small : targetRows L ≤ MAX

@@ -15,6 +15,7 @@ pub mod Forward
 pub mod Backward
 pub mod Reach
 pub mod Accepted
+pub mod Choices
 pub mod Theorem
 pub mod Guards
 pub mod Model

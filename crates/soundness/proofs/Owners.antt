@@ -24,7 +24,8 @@ use Rattle.lowering.specs.Check.{widthsOfSource, classesOfTables, classes, offs
 use Rattle.soundness.proofs.Facts.{S, m, Mapped, Image, Formed, Ends, walkOf, Found, ReadEntry, CallEntry, Owner, by-var, by-read, by-call, Owns}
 use Rattle.soundness.specs.Passed.{Passed}
 use Rattle.soundness.proofs.Marks.{in-no-order}
-use Rattle.soundness.proofs.Tables.{ReadAt, CallAt, class-from, read-facts, call-facts, read-index, class-of-read, offset-of-read, class-of-call, offset-of-call}
+use Rattle.soundness.proofs.Tables.{ReadAt, CallAt, class-from, read-facts, call-facts, read-index}
+use Rattle.soundness.proofs.Tables.{class-of-read, offset-of-read, class-of-call, offset-of-call}
 use Rattle.soundness.proofs.Classes.{kind, kind-end, usedEnd, usedAt, Uses, Used, turn-one, turn-live, turn-used, answerAt, classesAt}
 use Rattle.soundness.proofs.Classes.{var-passed, classes-length, mapped-passed, rows-hold, kind-stays}
 use Rattle.soundness.proofs.Found.{of-row}
@@ -175,8 +176,9 @@ module _ (L : Lowering) (P : Passed L) (F : Formed L) (small : targetRows L ≤ 
     where
       entry : (o : Owner) → Owns L o r → 0 < kindOf o → either (getD (classes L (sourceRows L)) r 0) 4 5 ≡ true
       entry o x k =
-          let e : kind (getD (classes L (sourceRows L)) r 0) ≡ kindOf o = kind-stays L (P .reached) r (sourceRows L) (omega arith) ∙ owner-kind o r x in
-          kind-end (getD (classes L (sourceRows L)) r 0) (omega arith) (P .live r h)
+          let c = getD (classes L (sourceRows L)) r 0 in
+          let e : kind c ≡ kindOf o = kind-stays L (P .reached) r (sourceRows L) (omega arith) ∙ owner-kind o r x in
+          kind-end c (omega arith) (P .live r h)
 
       go : {i : ℕ} → OwnedBy L i r → either (getD (classes L (sourceRows L)) r 0) 4 5 ≡ true
       go (by-var i, x, _) = absurd (no-image i x)

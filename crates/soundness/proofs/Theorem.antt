@@ -26,8 +26,8 @@ use Rattle.soundness.specs.Choices.{MappedVar, OpenInSource, OpenInTarge
 use Rattle.soundness.specs.Passed.{Passed}
 use Rattle.soundness.proofs.Passed.{passed}
 use Rattle.soundness.proofs.Accepted.{zeros, zero-interpretation, zeros-fit, zero-fits, passed-forward, passed-backward}
-use Rattle.soundness.proofs.Accepted.{by-classes, left-at, chosen-rows, assigned-image, assigned-free, interpreted-mapped, interpreted-unmapped}
-use Rattle.soundness.proofs.Accepted.{in-class-zero, at-unmapped, class-zero-fits, class-zero-has, unmapped-fits, unmapped-has}
+use Rattle.soundness.proofs.Accepted.{assigned-image, assigned-free, interpreted-mapped, interpreted-unmapped, chosen-rows, left-at}
+use Rattle.soundness.proofs.Choices.{in-class-zero, class-zero-fits, class-zero-has, at-unmapped, unmapped-fits, unmapped-has, by-classes}
 
 module _ (L : Lowering) (ws0 ws1 cls ent : List ℕ) (slice : length (L .target .rows) ≤ MAX) (accepts : Accepts L ws0 ws1 cls ent) where
   tests : Passed L
