@@ -253,7 +253,8 @@ gilfrunt_answer gilfrunt_values(
  *   12  place position     source root whose image is not the target's root there
  *   13  place position     target root that is not the congruence root due there
  *   12  place 0            target roots left over
- *    0                     accepted: source and target are satisfiable together
+ *    0                     accepted: source and target are satisfiable together,
+ *                          and leave the same values of mapped variables open
  *
  * 0 leaves both graphs' widths, the classes and the entry offsets of the target's
  * rows, and zeros after the last row. 15 and 18 write nothing; every other refusal
