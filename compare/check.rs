@@ -204,7 +204,12 @@ fn call(lists: &mut Lists, bits: &mut [Vec<u8>; 2]) -> (Answer, bool) {
 
 /// An accepted lowering, with lent lists that fit it or have words to spare.
 pub fn undamaged(random: &mut Random, rows: usize) -> Lists {
-    let mut lists = lowering::accepted(random, rows);
+    let lists = lowering::accepted(random, rows);
+    lent(random, lists)
+}
+
+/// The lists of a lowering, with lent lists that fit it or have words to spare.
+pub fn lent(random: &mut Random, mut lists: Lists) -> Lists {
     let source = lists[at::SOURCE].len() / SOURCE.row;
     let target = lists[at::TARGET].len() / TARGET.row;
     for rows in [source, target, target, target] {

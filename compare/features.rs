@@ -314,7 +314,7 @@ fn entries<'l>(
         .filter(move |&(p, q)| test(p, q))
 }
 
-fn reads<'l>(
+pub fn reads<'l>(
     lists: &'l Lists,
     test: impl Fn(Entry, Entry) -> bool + Copy + 'l,
 ) -> impl Iterator<Item = (Entry<'l>, Entry<'l>)> + 'l {
@@ -329,18 +329,18 @@ fn calls<'l>(
 }
 
 /// The pairs of calls that have a congruence root.
-fn call_pairs(lists: &Lists) -> impl Iterator<Item = (Entry<'_>, Entry<'_>)> + '_ {
+pub fn call_pairs(lists: &Lists) -> impl Iterator<Item = (Entry<'_>, Entry<'_>)> + '_ {
     calls(lists, |p, q| p[1] == q[1] && p[3] == q[3])
 }
 
 /// The arguments of two calls, pair by pair.
-fn arguments<'l>(lists: &'l Lists, p: Entry, q: Entry) -> impl Iterator<Item = [u64; 2]> + 'l {
+pub fn arguments<'l>(lists: &'l Lists, p: Entry, q: Entry) -> impl Iterator<Item = [u64; 2]> + 'l {
     let of = |call: Entry| stretch(&lists[at::ARGUMENTS], call[2], call[3]).unwrap_or(&[]);
     of(p).iter().zip(of(q)).map(|(&a, &b)| [a, b])
 }
 
 /// The roots that neither the source roots nor the calls account for.
-fn read_roots(lists: &Lists) -> usize {
+pub fn read_roots(lists: &Lists) -> usize {
     lists[at::TARGET_ROOTS].len() - lists[at::SOURCE_ROOTS].len() - call_pairs(lists).count()
 }
 

@@ -18,6 +18,8 @@ pub enum Style {
     Chains,
     /// Widths up to 64 and operands at the edges, in a target.
     Values,
+    /// Narrow functions, and widths up to 64.
+    Small,
 }
 
 /// Widths of constants at the ceiling; rare, since they take so many bits.
@@ -140,6 +142,9 @@ impl<'r> Builder<'r> {
         if self.style == Style::Values {
             return self.value_width();
         }
+        if self.style == Style::Small {
+            return self.random.pick(&[1, 2, 2, 2, 2, 3, 8, 8, 32]);
+        }
         if self.style == Style::Wide && !self.random.once_in(4) {
             let half = CEILING / 2;
             let any = 1 + self.random.below(CEILING);
@@ -226,7 +231,7 @@ impl<'r> Builder<'r> {
     fn widest(&self) -> u64 {
         match self.style {
             Style::Wide => CEILING,
-            Style::Values => 64,
+            Style::Values | Style::Small => 64,
             _ => 128,
         }
     }

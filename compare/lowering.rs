@@ -32,27 +32,40 @@ pub struct Writer<'r> {
 /// The eleven lists of an accepted lowering, of a source of 0 to about `rows`
 /// rows.
 pub fn accepted(random: &mut Random, rows: usize) -> Lists {
-    let mut writer = Writer {
-        source: sources::source(random, rows),
-        map: Vec::new(),
-        target: Vec::new(),
-        bits: Vec::new(),
-        reads: Vec::new(),
-        calls: Vec::new(),
-        roots: Vec::new(),
-    };
+    let mut writer = Writer::new(sources::source(random, rows));
     let roots = writer.source_roots();
-    writer.lower_rows(&roots);
-    writer.shuffle_tables();
-    writer.roots = roots.iter().map(|&root| writer.image(root)).collect();
-    writer.congruence_roots();
-    if writer.random().once_in(2) {
-        writer.reorder();
-    }
-    writer.lists(roots)
+    writer.written(roots)
 }
 
-impl Writer<'_> {
+/// The same of this source with these roots.
+pub fn of(source: Builder, roots: Vec<u64>) -> Lists {
+    Writer::new(source).written(roots)
+}
+
+impl<'r> Writer<'r> {
+    fn new(source: Builder<'r>) -> Writer<'r> {
+        Writer {
+            source,
+            map: Vec::new(),
+            target: Vec::new(),
+            bits: Vec::new(),
+            reads: Vec::new(),
+            calls: Vec::new(),
+            roots: Vec::new(),
+        }
+    }
+
+    fn written(mut self, roots: Vec<u64>) -> Lists {
+        self.lower_rows(&roots);
+        self.shuffle_tables();
+        self.roots = roots.iter().map(|&root| self.image(root)).collect();
+        self.congruence_roots();
+        if self.random().once_in(2) {
+            self.reorder();
+        }
+        self.lists(roots)
+    }
+
     pub fn random(&mut self) -> &mut Random {
         self.source.random
     }

@@ -3,7 +3,8 @@
 //! `compare` runs many cases through both, `list` writes a fixed list of cases
 //! with the expected outcomes, `bench` takes times, `smt` writes the library's
 //! values as a script for a solver, `check-self` holds two statements of Check
-//! against each other, `books` gives books to the program `verdict`, `slow` times it.
+//! against each other, `choices` tries that source and target leave the same choices,
+//! `books` gives books to the program `verdict`, `slow` times it.
 //! docs/COMPARISON.md tells more; `compare/run` builds and starts this program.
 
 mod bench;
@@ -16,6 +17,11 @@ mod ceilingcounts;
 mod chains;
 mod changes;
 mod check;
+mod choicecases;
+mod choicecounts;
+mod choicefeatures;
+mod choices;
+mod choicevalues;
 mod compare;
 mod congruence;
 mod damage;
@@ -32,6 +38,11 @@ mod listedbooks;
 mod lowering;
 mod marked;
 mod misfits;
+mod open;
+mod openlowering;
+mod openmemory;
+mod openplan;
+mod openrows;
 mod operands;
 mod operation;
 mod ours;
@@ -49,6 +60,7 @@ mod slow;
 mod smt;
 mod sources;
 mod spoil;
+mod statement;
 mod tags;
 mod tally;
 mod tiny;
@@ -62,7 +74,7 @@ use std::process::ExitCode;
 
 use operation::{Operation, OPERATIONS};
 
-const USAGE: &str = "usage: [compare|bench|list|smt|check-self|books|slow] \
+const USAGE: &str = "usage: [compare|bench|list|smt|check-self|choices|books|slow] \
 [--seed N] [--cases N] [--rows N] [--only NAME] [--verdict PROGRAM]";
 
 /// The words of the command line.
@@ -97,7 +109,7 @@ fn command(mut words: impl Iterator<Item = String>) -> Option<Command> {
             "--rows" => command.rows = words.next()?.parse().ok()?,
             "--only" => command.only = Some(operation(&words.next()?)?),
             "--verdict" => command.verdict = words.next()?,
-            "compare" | "bench" | "list" | "smt" | "check-self" | "books" | "slow" => {
+            "compare" | "bench" | "list" | "smt" | "check-self" | "choices" | "books" | "slow" => {
                 command.what = word
             }
             _ => return None,
@@ -113,6 +125,7 @@ fn main() -> ExitCode {
     };
     let cases = command.cases.unwrap_or(match command.what.as_str() {
         "books" => 50_000,
+        "choices" => 15_000,
         _ => 1_000_000,
     });
     let good = match command.what.as_str() {
@@ -120,6 +133,7 @@ fn main() -> ExitCode {
         "list" => list::list(command.seed),
         "smt" => smt::smt(command.seed, command.rows),
         "check-self" => selftest::selftest(command.seed, cases),
+        "choices" => choices::choices(command.seed, cases),
         "books" => books::books(command.seed, cases, &command.verdict),
         "slow" => slow::slow(&command.verdict),
         _ => compare::compare(command.seed, cases, command.only),

@@ -19,18 +19,22 @@ struct Before<'a> {
 pub fn values(nodes: &[DagNode], bits: &[bool], widths: &[usize], given: &[u64]) -> Vec<u64> {
     let mut values = Vec::with_capacity(nodes.len());
     for (row, &node) in nodes.iter().enumerate() {
-        let before = Before {
-            widths,
-            values: &values,
-        };
         let value = match node {
             DagNode::Var(_) => given[row],
-            DagNode::Const(start, width) => constant(&bits[start..start + width]),
-            _ => before.value(node),
+            _ => value(node, bits, widths, &values),
         };
         values.push(value & ones(widths[row]));
     }
     values
+}
+
+/// The value of a row that is no variable, by those of the rows that it names; bits
+/// above its width may be anything.
+pub fn value(node: DagNode, bits: &[bool], widths: &[usize], values: &[u64]) -> u64 {
+    match node {
+        DagNode::Const(start, width) => constant(&bits[start..start + width]),
+        _ => Before { widths, values }.value(node),
+    }
 }
 
 /// The word of these bits, lowest first.

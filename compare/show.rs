@@ -8,13 +8,17 @@ use crate::tags::TAGS;
 pub fn disagreement(operation: &dyn Operation, pair: Pair, lists: &Lists) -> String {
     let (names, outcomes) = (pair.names(), pair.outcomes(operation, lists));
     let mut text = format!("{}, on this input:\n", operation.name());
-    for (list, &(name, kind)) in lists.iter().zip(operation.lists()) {
-        text += &named(name, kind, list);
-    }
+    text += &input(operation, lists);
     for (name, outcome) in names.iter().zip(&outcomes) {
         text += &format!("{} {}\n", titled(name), shown(outcome.answer));
     }
     text + &differing(operation, names, &outcomes)
+}
+
+/// Each list under its name.
+pub fn input(operation: &dyn Operation, lists: &Lists) -> String {
+    let named = |(list, &(name, kind)): (&Vec<u64>, &(&str, Kind))| named(name, kind, list);
+    lists.iter().zip(operation.lists()).map(named).collect()
 }
 
 /// A name with a colon, in a column.

@@ -7,8 +7,9 @@ use crate::tags::*;
 
 /// A function's argument widths and result width. Two calls of one function
 /// number and count must agree in them, or their congruence root has no widths.
-struct Function {
-    number: u64,
+#[derive(Clone)]
+pub struct Function {
+    pub number: u64,
     arguments: Vec<u64>,
     result: u64,
 }
@@ -32,7 +33,7 @@ pub fn source(random: &mut Random, rows: usize) -> Builder<'_> {
 
 impl Builder<'_> {
     /// A row of any core tag.
-    fn core_row(&mut self) {
+    pub fn core_row(&mut self) {
         match self.random.below(SELECT) {
             CONST => {
                 let width = match self.style {
@@ -46,7 +47,7 @@ impl Builder<'_> {
     }
 
     /// A row of width 32, to be an index.
-    fn index(&mut self) {
+    pub fn index(&mut self) {
         match self.random.below(8) {
             0 => self.push(VAR, [32, 0, 0, 0]),
             1 | 2 | 3 => self.sparse_constant(32),
@@ -80,7 +81,7 @@ impl Builder<'_> {
     }
 
     /// A Select, often of the same array, over no to three pairs.
-    fn read(&mut self) {
+    pub fn read(&mut self) {
         let array = self.random.pick(&[7, 7, 7, 7, 0, u64::MAX]);
         let index = self.some_index();
         let (start, count) = match self.random.below(6) {
@@ -132,7 +133,7 @@ impl Builder<'_> {
     }
 
     /// A Call, often of a function that was called before.
-    fn apply(&mut self, functions: &mut Vec<Function>) {
+    pub fn apply(&mut self, functions: &mut Vec<Function>) {
         if functions.is_empty() || self.random.once_in(4) {
             let function = self.function();
             let known = |f: &Function| {
@@ -156,13 +157,16 @@ impl Builder<'_> {
 
     fn function(&mut self) -> Function {
         let count = self.random.pick(&[0, 1, 1, 2, 2, 3, 4]);
+        let arguments: &[u64] = match self.style {
+            Style::Small => &[1, 2, 2, 2, 3, 8],
+            _ => &[1, 8, 8, 32, 32],
+        };
         Function {
             number: self.random.pick(&[3, 3, 3, 5, u64::MAX]),
-            arguments: (0..count)
-                .map(|_| self.random.pick(&[1, 8, 8, 32, 32]))
-                .collect(),
+            arguments: (0..count).map(|_| self.random.pick(arguments)).collect(),
             result: match self.style {
                 Style::Wide => self.width(),
+                Style::Small => self.random.pick(&[1, 2, 2, 2, 3, 8]),
                 _ => self.random.pick(&[1, 8, 8, 32, 64]),
             },
         }

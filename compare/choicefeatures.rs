@@ -1,0 +1,116 @@
+//! What the lowerings and the triples of values of choices.rs are to show: a run that
+//! never met one of these has not tried the statement.
+
+use crate::check::at;
+use crate::features::{arguments, call_pairs, reads};
+use crate::open::{Found, Searched};
+use crate::openlowering::Lowering;
+use crate::tags::*;
+
+/// A triple of values with what was found.
+pub struct Tried<'t> {
+    pub lowering: &'t Lowering,
+    pub source: Searched,
+    pub target: Searched,
+    /// The target by all its assignments.
+    pub plainly: Found,
+    /// The target is closed, but without the congruence roots of reads, or without
+    /// those of calls, it is not.
+    pub but_for: [bool; 2],
+}
+
+impl Tried<'_> {
+    pub fn is(&self, found: Found) -> bool {
+        self.source.found == found && self.target.found == found
+    }
+}
+
+/// Of lowerings.
+pub const LOWERINGS: [(&str, fn(&Lowering) -> bool); 13] = [
+    ("no source root", |of| of.roots.is_empty()),
+    ("no root in either graph", |of| {
+        of.lists[at::TARGET_ROOTS].is_empty()
+    }),
+    ("no source root, but congruence roots", |of| {
+        of.roots.is_empty() && !of.lists[at::TARGET_ROOTS].is_empty()
+    }),
+    ("a root that is a variable", |of| {
+        of.roots.iter().any(|&root| of.source.tag(root) == VAR)
+    }),
+    ("a root of more than one bit", |of| {
+        let widths = &of.source.shape.widths;
+        of.roots.iter().any(|&root| widths[root] > 1)
+    }),
+    ("an unmapped variable", |of| !of.unmapped.is_empty()),
+    ("an unmapped variable that a row names", |of| {
+        of.unmapped.iter().any(|&row| of.source.shape.names(row))
+    }),
+    ("an unmapped variable below a root", |of| {
+        of.below_roots().any(|row| of.unmapped.contains(&row))
+    }),
+    ("a variable of class 0", |of| !of.idle.is_empty()),
+    ("a variable of class 0 that a row names", |of| {
+        of.idle.iter().any(|&row| of.target.shape.names(row))
+    }),
+    ("a Select with pairs below a root", |of| {
+        let stored = |row: usize| of.source.tag(row) == SELECT && of.source.rows[row][4] > 0;
+        of.below_roots().any(stored)
+    }),
+    ("a read or a call below an index", |of| {
+        of.below_roots().any(|row| is_nested(of, row, SELECT))
+    }),
+    ("a read or a call below an argument", |of| {
+        of.below_roots().any(|row| is_nested(of, row, CALL))
+    }),
+];
+
+/// Is the row of this tag, with a read or a call below its index or an argument?
+fn is_nested(of: &Lowering, row: usize, tag: u64) -> bool {
+    let operands = &of.source.shape.operands[row];
+    let keys = if tag == SELECT { 1 } else { operands.len() };
+    let below = || of.source.shape.reach(&operands[..keys]);
+    let cell = |(row, below): (usize, bool)| below && of.source.tag(row) >= SELECT;
+    of.source.tag(row) == tag && below().into_iter().enumerate().any(cell)
+}
+
+/// Of triples.
+pub const TRIPLES: [(&str, fn(&Tried) -> bool); 14] = [
+    ("open on both sides", |of| of.is(Found::Open)),
+    ("open, after values were taken back", |of| {
+        of.is(Found::Open) && of.source.back && of.target.back
+    }),
+    ("open, by all assignments too", |of| {
+        of.plainly == Found::Open
+    }),
+    ("open on neither side", |of| of.is(Found::Closed)),
+    ("closed, after values were taken back", |of| {
+        of.is(Found::Closed) && of.source.back && of.target.back
+    }),
+    ("closed, by all assignments too", |of| {
+        of.plainly == Found::Closed
+    }),
+    ("a byte of an array chosen", |of| {
+        of.source.chose(|row| of.lowering.source.tag(row) == SELECT)
+    }),
+    ("a result of a function chosen", |of| {
+        of.source.chose(|row| of.lowering.source.tag(row) == CALL)
+    }),
+    ("a variable of class 4 chosen", |of| {
+        of.target.chose(|row| of.lowering.class(row) == 4)
+    }),
+    ("a variable of class 5 chosen", |of| {
+        of.target.chose(|row| of.lowering.class(row) == 5)
+    }),
+    ("open, with two read entries of one key", |of| {
+        let mut pairs = reads(&of.lowering.lists, |p, q| p[1] == q[1]);
+        of.is(Found::Open) && pairs.any(|(p, q)| of.target.alike(p[2], q[2]))
+    }),
+    ("open, with two call entries of one key", |of| {
+        let lists = &of.lowering.lists;
+        let alike = |[a, b]: [u64; 2]| of.target.alike(a, b);
+        let mut pairs = call_pairs(lists);
+        of.is(Found::Open) && pairs.any(|(p, q)| arguments(lists, p, q).all(alike))
+    }),
+    ("closed by congruence of reads alone", |of| of.but_for[0]),
+    ("closed by congruence of calls alone", |of| of.but_for[1]),
+];

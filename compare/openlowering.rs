@@ -1,0 +1,106 @@
+//! An accepted lowering as statement.rs sees it: two graphs, and three kinds of
+//! variables whose values are given.
+
+use crate::check::{at, CHECK};
+use crate::openrows::Graph;
+use crate::operation::{Lists, Operation};
+use crate::reference::sizes;
+use crate::rules::{ACCEPTED, SOURCE, TARGET};
+use crate::tags::*;
+
+const MAX: u64 = u64::MAX;
+
+/// The place of the classes.
+const CLASSES: usize = at::LENT + 2;
+
+/// An accepted lowering without rows above 64 bits.
+pub struct Lowering {
+    /// As the library's Check left them.
+    pub lists: Lists,
+    pub source: Graph,
+    pub target: Graph,
+    /// The source roots.
+    pub roots: Vec<usize>,
+    /// Source variables that are mapped, each with its image, and those that are not.
+    pub mapped: Vec<[usize; 2]>,
+    pub unmapped: Vec<usize>,
+    /// Target variables of class 0.
+    pub idle: Vec<usize>,
+}
+
+/// By row: u and p on the source's variables; on the target's q, which counts at
+/// class 0.
+#[derive(Clone)]
+pub struct Given {
+    pub source: Vec<u64>,
+    pub target: Vec<u64>,
+}
+
+/// The lists after the library's Check, if it accepts them, and each variable of the
+/// target has class 1 if it is a source variable's image, else class 0, 4 or 5.
+pub fn accepted(lists: &Lists) -> Option<Lists> {
+    let outcome = CHECK.ours(lists);
+    let after = outcome.lists;
+    if outcome.answer != ACCEPTED || outcome.strayed {
+        return None;
+    }
+    let images: Vec<usize> = mapped(&after).map(|[_, image]| image).collect();
+    let expected = |row: usize, class: u64| {
+        let image = images.contains(&row);
+        image && class == 1 || !image && matches!(class, 0 | 4 | 5)
+    };
+    let target = after[at::TARGET].chunks_exact(TARGET.row);
+    let mut variables = target.enumerate().filter(|(_, words)| words[0] == VAR);
+    let good = variables.all(|(row, _)| expected(row, after[CLASSES][row]));
+    good.then_some(after)
+}
+
+/// Has a graph of these accepted lists a row above 64 bits?
+pub fn too_wide(lists: &Lists) -> bool {
+    let widths = &lists[at::LENT..CLASSES];
+    widths.iter().flatten().any(|&width| width > 64)
+}
+
+/// The source variables that are mapped, each with its image.
+fn mapped(lists: &Lists) -> impl Iterator<Item = [usize; 2]> + '_ {
+    let rows = lists[at::SOURCE].chunks_exact(SOURCE.row);
+    let images = rows.zip(&lists[at::MAP]).enumerate();
+    images
+        .filter(|(_, (words, &image))| words[0] == VAR && image != MAX)
+        .map(|(row, (_, &image))| [row, image as usize])
+}
+
+impl Lowering {
+    /// The lowering of such lists.
+    pub fn new(lists: Lists) -> Lowering {
+        let list = |place: usize| &lists[place][..];
+        let class = |row: usize| lists[CLASSES][row];
+        let source = [at::SOURCE, at::SOURCE_BITS, at::SIDE, at::LENT].map(list);
+        let source = Graph::new(source, SOURCE.row, |_, tag| matches!(tag, SELECT | CALL));
+        let target = [at::TARGET, at::TARGET_BITS, at::SIDE, at::LENT + 1].map(list);
+        let target = Graph::new(target, TARGET.row, |row, tag| {
+            tag == VAR && matches!(class(row), 4 | 5)
+        });
+        let unmapped = |row: &usize| lists[at::MAP][*row] == MAX;
+        Lowering {
+            roots: sizes(list(at::SOURCE_ROOTS)),
+            mapped: mapped(&lists).collect(),
+            unmapped: source.variables().filter(unmapped).collect(),
+            idle: target.variables().filter(|&row| class(row) == 0).collect(),
+            source,
+            target,
+            lists,
+        }
+    }
+
+    /// The class of a target row.
+    pub fn class(&self, row: usize) -> u64 {
+        self.lists[CLASSES][row]
+    }
+
+    /// The source rows that the roots stand on.
+    pub fn below_roots(&self) -> impl Iterator<Item = usize> {
+        let below = self.source.shape.reach(&self.roots);
+        (0..below.len()).filter(move |&row| below[row])
+    }
+}
