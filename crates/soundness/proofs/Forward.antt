@@ -93,11 +93,12 @@ module _ (L : Lowering) (F : Formed L) (M : Matched L) (I : Interpretation) (giv
   pub at-var : (i w : ℕ) → Mapped L i → S L i ≡ Var w → A (m L i) ≡ I .variable i
   unfolding assignment number kind all
   at-var i w k v =
-      rw
-      (no-read (m L i) (λ p x. other (by-read p) x (omega arith)),
-      no-call (m L i) (λ p x. other (by-call p) x (omega arith)),
-      e,
-      lt-ltb _ _ (k .0))
+      rw (
+        no-read (m L i) (λ p x. other (by-read p) x (omega arith)),
+        no-call (m L i) (λ p x. other (by-call p) x (omega arith)),
+        e,
+        lt-ltb _ _ (k .0),
+      )
     where
       owns : Mapped L i × ((z : ℕ) × (S L i ≡ Var z)) × (m L i ≡ m L i)
       owns = (k, (w, v), refl)

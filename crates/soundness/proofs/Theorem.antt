@@ -1,5 +1,6 @@
--- READ THIS FIRST: what it means that Check accepts. The names are those of specs/ (Sound and crates/meaning: what graphs mean; Transfer: the
--- assignment and the interpretation that are found) and of crates/lowering (Check: the operation's answer). docs/PROOF.md tells the argument.
+-- READ THIS FIRST: what it means that Check accepts. The names are those of specs/ (Sound and crates/meaning: what graphs mean; Choices: which values
+-- of variables remain open; Transfer: the assignment and the interpretation that are found) and of crates/lowering (Check: the operation's answer).
+-- docs/PROOF.md tells the argument.
 -- Assumes that Check accepts, whatever lists are lent, and that the target has no more words than a slice can have. Nothing else.
 use Prim.Native.Nat.{ℕ, _<_, _≤_}
 use mathlib.Core.Path.{_≡_, _∙_}

@@ -22,8 +22,7 @@ returns c =
     let k = c .before .before .before in
     let v = k .verdict .ensures in
     let l = c .write-line .ensures .1 ∙ ap lineOf (c .before .before .words-of .ensures) in
-    let r = k .verdict .result in
-    (
+    let r = k .verdict .result in (
       c .write-line .ensures .0,
       (l ∙ ap (λ (a : Answer). lineOf (wordsOf a)) (v .0), (line-means _ _ r l (v .1 .0), line-means _ _ r l (v .1 .1))),
     )
