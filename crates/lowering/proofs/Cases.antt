@@ -174,6 +174,49 @@ cases-ceiling : answer (lowering (s5 0 4096 0 0 0 []) [] [] [] (0 ∷ []) [] [] 
 unfolding firstRefusal build first all agree trace rowIs bothConst sameConst unequalConst sameRead sameFunction sameCall readGood callGood isEq isLevel walk endGood callMatches varMatches nodeMatches rowAnswer rowClasses leads pairsWith pairs readsNeed allEqual congruent rootAt
 cases-ceiling = refl
 
+-- functions told apart by their widths (02, 2.7). Two calls without arguments, each with its variable: of 8 and 16 bits they are two functions and
+-- accepted, of 8 bits both they have one key, 6. With one argument row, at two result widths, no root is due
+abbrev two-results : ℕ → ℕ → ℕ → Lowering
+two-results w v k =
+    lowering (s5 0 8 0 0 0 (s5 38 3 w 0 k (s5 38 3 v 0 k []))) [] (0 ∷ []) [] (0 ∷ 1 ∷ 2 ∷ []) [] (1 ∷ 3 ∷ 0 ∷ k ∷ 2 ∷ 3 ∷ 0 ∷ k ∷ []) (0 ∷ [])
+    (t4 0 8 0 0 (t4 0 w 0 0 (t4 0 v 0 0 []))) [] []
+
+cases-results : answer (two-results 8 16 0) ∷ answer (two-results 8 8 0) ∷ answer (two-results 8 16 1) ∷ answer (two-results 8 8 1) ∷ []
+    ≡ accepted ∷ words 6 1 0 ∷ accepted ∷ words 6 1 0 ∷ []
+unfolding firstRefusal build first all agree trace rowIs bothConst sameConst unequalConst sameRead sameFunction sameCall readGood callGood isEq isLevel walk endGood callMatches varMatches nodeMatches rowAnswer rowClasses leads pairsWith pairs readsNeed allEqual congruent rootAt
+cases-results = refl
+
+-- three calls whose arguments have 8, u and 8 bits: where u is 16, one root is due, row 9, for the first and the third. Row 11 says of the first and
+-- the second that their results are equal: in the place of the root that is due it is 13, behind it 12. Where u is 8, three roots are due
+abbrev three-calls : ℕ → List ℕ → Lowering
+three-calls u troots =
+    lowering (s5 0 8 0 0 0 (s5 0 u 0 0 0 (s5 0 8 0 0 0 (s5 38 3 8 0 1 (s5 38 3 8 1 1 (s5 38 3 8 2 1 [])))))) [] (0 ∷ 1 ∷ 2 ∷ []) [] (0 ∷ 1 ∷ 2 ∷ 3 ∷ 4 ∷ 5 ∷ []) []
+    (3 ∷ 3 ∷ 0 ∷ 1 ∷ 4 ∷ 3 ∷ 1 ∷ 1 ∷ 5 ∷ 3 ∷ 2 ∷ 1 ∷ []) (0 ∷ 1 ∷ 2 ∷ [])
+    (t4 0 8 0 0 (t4 0 u 0 0 (t4 0 8 0 0 (t4 0 8 0 0 (t4 0 8 0 0 (t4 0 8 0 0
+    (t4 19 0 2 0 (t4 29 6 0 0 (t4 19 3 5 0 (t4 31 7 8 0 (t4 19 3 4 0 (t4 31 7 10 0 [])))))))))))) [] troots
+
+cases-arguments : answer (three-calls 16 (9 ∷ []))
+    ∷ answer (three-calls 16 [])
+    ∷ answer (three-calls 16 (11 ∷ 9 ∷ []))
+    ∷ answer (three-calls 16 (9 ∷ 11 ∷ []))
+    ∷ answer (three-calls 8 (9 ∷ []))
+    ∷ []
+    ≡ accepted ∷ words 13 0 0 ∷ words 13 0 0 ∷ words 12 0 0 ∷ words 13 0 0 ∷ []
+unfolding firstRefusal build first all agree trace rowIs bothConst sameConst unequalConst sameRead sameFunction sameCall readGood callGood isEq isLevel walk endGood callMatches varMatches nodeMatches rowAnswer rowClasses leads pairsWith pairs readsNeed allEqual congruent rootAt
+cases-arguments = refl
+
+-- two calls with arguments x, y and x, z, where y has 8 bits and z u bits: a difference in the last argument alone tells them apart. The root that
+-- would say so is ill-formed there: Eq(1,2) is row 5
+abbrev last-argument : ℕ → (List ℕ → List ℕ) → Lowering
+last-argument u more =
+    lowering (s5 0 8 0 0 0 (s5 0 8 0 0 0 (s5 0 u 0 0 0 (s5 38 3 8 0 2 (s5 38 3 8 2 2 []))))) [] (0 ∷ 1 ∷ 0 ∷ 2 ∷ []) [] (0 ∷ 1 ∷ 2 ∷ 3 ∷ 4 ∷ []) []
+    (3 ∷ 3 ∷ 0 ∷ 2 ∷ 4 ∷ 3 ∷ 2 ∷ 2 ∷ []) (0 ∷ 1 ∷ 0 ∷ 2 ∷ []) (t4 0 8 0 0 (t4 0 8 0 0 (t4 0 u 0 0 (t4 0 8 0 0 (t4 0 8 0 0 (more [])))))) [] []
+
+cases-last : answer (last-argument 16 (λ m. m)) ∷ answer (last-argument 8 (λ m. m)) ∷ answer (last-argument 16 (t4 19 1 2 0)) ∷ []
+    ≡ accepted ∷ words 13 0 0 ∷ words 2 5 0 ∷ []
+unfolding firstRefusal build first all agree trace rowIs bothConst sameConst unequalConst sameRead sameFunction sameCall readGood callGood isEq isLevel walk endGood callMatches varMatches nodeMatches rowAnswer rowClasses leads pairsWith pairs readsNeed allEqual congruent rootAt
+cases-last = refl
+
 -- why a dead entry is refused (docs/PROOF.md): source Var(32) twice, Select(7,0), Select(7,1), Ne(2,3), root 4, is satisfiable. The target has a third entry,
 -- variable 5, whose index Ite(Eq(5,2),1,0) mentions its own variable and which no Select reaches; with the roots that its pairs need it is not satisfiable
 abbrev dead-entry : Lowering

@@ -65,7 +65,7 @@ module _ (L : Lowering) where
   pairsOfReads = readPairs (L .reads) (L .target .rows) (L .target .bits)
 
   abbrev pub pairsOfCalls : List Pair
-  pairsOfCalls = callPairs (L .calls)
+  pairsOfCalls = callPairs (L .calls) (L .cargs) widthsOfTarget
 
   -- where the roots of the calls' pairs begin, and where all roots end
   abbrev pub callRoots : ℕ
@@ -112,11 +112,11 @@ graphsAnswer S T = firstRefusal (graphAnswers S T (sourceIll S) (targetIll T))
 
 -- "12 RootMismatch; 13 CongruenceMismatch (position in the target root list, possibly its length); 12 for surplus roots."
 -- The place of 12 is the position of the first source root that has no image, differs or finds the list ended; roots left over have none
-abbrev pub rootAnswers : Entries → TargetGraph → List ℕ → List ℕ → List ℕ → List Answer
-rootAnswers E T map eroots troots =
+abbrev pub rootAnswers : Entries → TargetGraph → List ℕ → List ℕ → List ℕ → List ℕ → List Answer
+rootAnswers E T ws map eroots troots =
     let lead = badLead map eroots troots in
     let ps = readPairs (E .reads) (T .rows) (T .bits) in
-    let qs = callPairs (E .calls) in
+    let qs = callPairs (E .calls) (E .cargs) ws in
     let from = length eroots + length ps in
     let r = badCong troots (readRoot (E .reads) (T .rows)) (length eroots) ps in
     let c = badCong troots (callRoot (E .calls) (E .cargs) (T .rows)) from qs in
@@ -130,7 +130,7 @@ rootAnswers E T map eroots troots =
 abbrev pub tableAnswers : Entries → List ℕ → List ℕ → List ℕ → List Answer
 tableAnswers E target ws cls =
     let r = badRead (E .reads) target ws cls in
-    let c = badCall (E .calls) (E .cargs) target (readClasses (E .reads) cls (readCount (E .reads))) in
+    let c = badCall (E .calls) (E .cargs) target ws (readClasses (E .reads) cls (readCount (E .reads))) in
     refuse (ltb r (readCount (E .reads))) (ReadTable r) ∷ refuse (ltb c (callCount (E .calls))) (CallTable c) ∷ []
 
 -- "3 MapLength (expected, found); 5 ReadTable (entry); 6 CallTable (entry) .. Then by row 4 .. 11. Then 14 DeadEntry (first variable)", then the
@@ -141,7 +141,7 @@ matchAnswers L =
     ∷ tableAnswers (entriesOf L) (L .target .rows) (widthsOfTarget L) (noClasses L)
     ++ (rowsRefusal L
     ∷ refuse (ltb (deadVariable L) (targetRows L)) (DeadEntry (deadVariable L))
-    ∷ rootAnswers (entriesOf L) (L .target) (L .map) (L .eroots) (L .troots))
+    ∷ rootAnswers (entriesOf L) (L .target) (widthsOfTarget L) (L .map) (L .eroots) (L .troots))
 
 -- the answer, with room for some words in each of the four lists
 abbrev pub checkAnswer : Lowering → ℕ → ℕ → ℕ → ℕ → Answer

@@ -47,9 +47,9 @@ readsNeed reads target tbits k l =
 abbrev pub readPairs : List ℕ → List ℕ → List ℕ → List Pair
 readPairs reads target tbits = pairs (readsNeed reads target tbits) 0 (readCount reads)
 
--- "each pair of calls with one function number and count .. unequal constants don't excuse a pair"
-abbrev pub callPairs : List ℕ → List Pair
-callPairs calls = pairs (sameFunction calls) 0 (callCount calls)
+-- "each pair of calls" of one function (02, 2.7), ws being the target's widths; "here unequal constants don't excuse a pair"
+abbrev pub callPairs : List ℕ → List ℕ → List ℕ → List Pair
+callPairs calls cargs ws = pairs (sameFunction calls cargs ws) 0 (callCount calls)
 
 -- "BoolAnd nested to the left over the argument equalities": target row r says that xs and ys agree at 0, .., n
 unfoldable pub allEqual : List ℕ → (ℕ → ℕ) → (ℕ → ℕ) → ℕ → ℕ → Bool

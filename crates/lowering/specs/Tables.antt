@@ -57,12 +57,26 @@ callArg calls cargs k l = getD cargs (callStart calls k + l) 0
 unfoldable pub sameRead : List ℕ → ℕ → ℕ → Bool
 sameRead reads k l = all (eqb (readArray reads k) (readArray reads l) ∷ eqb (readIndex reads k) (readIndex reads l) ∷ [])
 
--- what tells two functions apart: "one function number and count"
-unfoldable pub sameFunction : List ℕ → ℕ → ℕ → Bool
-sameFunction calls k l = all (eqb (callFunction calls k) (callFunction calls l) ∷ eqb (argCount calls k) (argCount calls l) ∷ [])
+-- the widths of a call, ws being the target's: of its result, which is its variable's row, and of its arguments
+abbrev pub resultWidth : List ℕ → List ℕ → ℕ → ℕ
+resultWidth calls ws k = getD ws (callVar calls k) 0
 
-unfoldable pub sameCall : List ℕ → List ℕ → ℕ → ℕ → Bool
-sameCall calls cargs k l = all (sameFunction calls k l ∷ agree (callArg calls cargs k) (callArg calls cargs l) (argCount calls l) ∷ [])
+abbrev pub argWidth : List ℕ → List ℕ → List ℕ → ℕ → ℕ → ℕ
+argWidth calls cargs ws k l = getD ws (callArg calls cargs k l) 0
+
+-- "Two calls are now of one function only when number, count, argument widths and result width all agree" (02, 2.7)
+unfoldable pub sameFunction : List ℕ → List ℕ → List ℕ → ℕ → ℕ → Bool
+sameFunction calls cargs ws k l =
+    all
+    (eqb (callFunction calls k) (callFunction calls l)
+    ∷ eqb (argCount calls k) (argCount calls l)
+    ∷ eqb (resultWidth calls ws k) (resultWidth calls ws l)
+    ∷ agree (argWidth calls cargs ws k) (argWidth calls cargs ws l) (argCount calls l)
+    ∷ [])
+
+unfoldable pub sameCall : List ℕ → List ℕ → List ℕ → ℕ → ℕ → Bool
+sameCall calls cargs ws k l =
+    all (sameFunction calls cargs ws k l ∷ agree (callArg calls cargs k) (callArg calls cargs l) (argCount calls l) ∷ [])
 
 -- 5 and 6: "a cut entry, a variable that is no free Var (width 8 for reads)", or one of the table's own tests. A variable is free in class 0;
 -- isVar tests its row, cls are the classes after the entries before
@@ -84,12 +98,12 @@ readGood reads target ws cls k =
     ∷ [])
 
 -- 6: the arguments lie in the argument list, also the start of none, and are rows of the target; no key comes again
-unfoldable pub callGood : List ℕ → List ℕ → List ℕ → List ℕ → ℕ → Bool
-callGood calls cargs target cls k =
+unfoldable pub callGood : List ℕ → List ℕ → List ℕ → List ℕ → List ℕ → ℕ → Bool
+callGood calls cargs target ws cls k =
     entryGood 4 (λ r. eqb (getD r 0 0) tVar) calls target cls k
     (leb (callStart calls k + argCount calls k) (length cargs)
     ∷ none (λ l. leb (rowCount Target target) (callArg calls cargs k l)) (argCount calls k)
-    ∷ none (λ l. sameCall calls cargs l k) k
+    ∷ none (λ l. sameCall calls cargs ws l k) k
     ∷ [])
 
 -- the walk over a table: each entry gives its variable a class, and its "word offset in its table"; the lists after n entries
@@ -119,5 +133,5 @@ callOffsets calls ent n = tableOffsets 4 calls ent n
 abbrev pub badRead : List ℕ → List ℕ → List ℕ → List ℕ → ℕ
 badRead reads target ws cls = badEntry 3 2 (readGood reads target ws) reads cls
 
-abbrev pub badCall : List ℕ → List ℕ → List ℕ → List ℕ → ℕ
-badCall calls cargs target cls = badEntry 4 3 (callGood calls cargs target) calls cls
+abbrev pub badCall : List ℕ → List ℕ → List ℕ → List ℕ → List ℕ → ℕ
+badCall calls cargs target ws cls = badEntry 4 3 (callGood calls cargs target ws) calls cls

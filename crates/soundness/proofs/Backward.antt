@@ -12,7 +12,7 @@ use lib.ListN.{length, getD}
 use Rattle.lists.specs.Tests.{all}
 use Rattle.lists.specs.Trace.{tabulate}
 use Rattle.lists.proofs.First.{first-hit, first-upto}
-use Rattle.lists.proofs.Tests.{all-true, tabulate-same, tabulate-at, tabulate-length}
+use Rattle.lists.proofs.Tests.{all-true, agree-yes, tabulate-same, tabulate-at, tabulate-length}
 use Rattle.rows.specs.declared.Graph.the-variants.{Target}
 use Rattle.rows.specs.declared.Node.the-variants.{Var}
 use Rattle.rows.specs.Row.{rowAt}
@@ -24,11 +24,12 @@ use Rattle.value.specs.Graph.{Assigns}
 use Rattle.value.proofs.Tagged.{node-var}
 use Rattle.meaning.specs.Meaning.{Interpretation, OfKind, RootsTrue, sourceValue}
 use Rattle.lowering.specs.Images.{fieldAt, unequalConst}
-use Rattle.lowering.specs.Tables.{readCount, readVar, readArray, readIndex, callCount, callVar, callFunction, argCount, callArg, sameFunction}
+use Rattle.lowering.specs.Tables.{readCount, readVar, readArray, readIndex, callCount, callVar, callFunction, argCount, callArg, resultWidth, argWidth, sameFunction}
 use Rattle.lowering.specs.Lowering.{Lowering, sourceRows, targetRows}
+use Rattle.lowering.specs.Check.{widthsOfTarget}
 use Rattle.lowering.proofs.Images.{const-row, both-const}
 use Rattle.soundness.specs.Transfer.{sameVal, sameVals, readHit, callHit, readAt, callAt, interpretation}
-use Rattle.soundness.proofs.Facts.{S, m, Formed, ReadCong, CallCong, Matched, rootOf}
+use Rattle.soundness.proofs.Facts.{S, m, oneFunction, Formed, ReadCong, CallCong, Matched, rootOf}
 use Rattle.soundness.proofs.Tells.{tv, row-value, row-width, cong-tells, tells-out, val-ext}
 use Rattle.soundness.proofs.Agree.{sv, Agree, LeafRead, LeafCall, agree-rows, unequal-numbers}
 use Rattle.soundness.proofs.Forward.{of-var}
@@ -105,6 +106,19 @@ module _ (L : Lowering) (F : Formed L) (M : Matched L) (A : ℕ → ℕ) (fits :
   call-number : (q : ℕ) → q < callCount (L .calls) → nat (v (callVar (L .calls) q)) ≡ A (callVar (L .calls) q)
   call-number q h = let e = M .of-call q h in ap nat (row-value L F A fits (callVar (L .calls) q) _ (e .inside) (e .is-var))
 
+  -- the widths of a call entry's variable and of its arguments
+  result-width : (q : ℕ) → q < callCount (L .calls) → resultWidth (L .calls) (widthsOfTarget L) q ≡ fieldAt (L .target .rows) (callVar (L .calls) q) 1
+  result-width q h =
+      let e = M .of-call q h in
+      let r = callVar (L .calls) q in
+      sym (row-width L F A fits r (e .inside)) ∙ ap wid (row-value L F A fits r _ (e .inside) (e .is-var)) ∙ sym (node-var (rowAt Target (L .target .rows) r) (e .width) (e .is-var) .1)
+
+  arg-width : (q l : ℕ) → q < callCount (L .calls) → l < argCount (L .calls) q
+      → argWidth (L .calls) (L .cargs) (widthsOfTarget L) q l ≡ wid (v (callArg (L .calls) (L .cargs) q l))
+  arg-width q l h u =
+      let (x, k, ex) = M .of-call q h .args-image l u in
+      sym (row-width L F A fits (callArg (L .calls) (L .cargs) q l) (rw (← ex) (k .1)))
+
   -- an index has its array's index width
   index-width : (q : ℕ) → q < readCount (L .reads) → wid (v (readIndex (L .reads) q)) ≡ indexWidth (readArray (L .reads) q)
   index-width q h =
@@ -149,20 +163,34 @@ module _ (L : Lowering) (F : Formed L) (M : Matched L) (A : ℕ → ℕ) (fits :
         root (q, hq, c) =
             sym (read-number k hk) ∙ ap nat (tells-out (cong-tells L F A fits _ _ 1 _ _ (rootOf L q) c) (eqb-true _ _ (true-roots q hq)) (λ x b. same)) ∙ read-number l hl
 
-    calls-agree : (k l : ℕ) → k ≤ l → l < callCount (L .calls) → callFunction (L .calls) k ≡ callFunction (L .calls) l → args k ≡ args l
+    calls-agree : (k l : ℕ) → k ≤ l → l < callCount (L .calls) → callFunction (L .calls) k ≡ callFunction (L .calls) l
+        → fieldAt (L .target .rows) (callVar (L .calls) k) 1 ≡ fieldAt (L .target .rows) (callVar (L .calls) l) 1 → args k ≡ args l
         → A (callVar (L .calls) k) ≡ A (callVar (L .calls) l)
     unfolding sameFunction all
-    calls-agree k l h hl e s = ⊎-elim (λ z. rw z) (λ lt. root (M .cong-call k l lt hl (rw (eq-eqb _ _ e, eq-eqb _ _ n)))) (eq-or-lt-of-le h)
+    calls-agree k l h hl e w s = ⊎-elim (λ z. rw z) (λ lt. root (M .cong-call k l lt hl one)) (eq-or-lt-of-le h)
       where
+        hk : k < callCount (L .calls)
+        hk = omega arith
+
         n : argCount (L .calls) k ≡ argCount (L .calls) l
         n = sym (tabulate-length _ (argCount (L .calls) k)) ∙ ap length s ∙ tabulate-length _ (argCount (L .calls) l)
 
         same : args k ≡ tabulate (λ x. v (callArg (L .calls) (L .cargs) l x)) (argCount (L .calls) k)
         same = s ∙ ap (λ (z : ℕ). tabulate (λ x. v (callArg (L .calls) (L .cargs) l x)) z) (sym n)
 
+        -- equal values have equal widths
+        widths : (x : ℕ) → x < argCount (L .calls) l
+            → argWidth (L .calls) (L .cargs) (widthsOfTarget L) k x ≡ argWidth (L .calls) (L .cargs) (widthsOfTarget L) l x
+        widths x u =
+            let y : x < argCount (L .calls) k = omega (arith, n) in
+            arg-width k x hk y ∙ ap wid (tabulate-at _ _ (argCount (L .calls) k) same x y) ∙ sym (arg-width l x hl u)
+
+        one : oneFunction L k l ≡ true
+        one = rw (eq-eqb _ _ e, eq-eqb _ _ n, eq-eqb _ _ (result-width k hk ∙ w ∙ sym (result-width l hl)), agree-yes _ _ _ widths)
+
         root : (q : ℕ) × (q < length (L .troots)) × CallCong L k l (rootOf L q) → A (callVar (L .calls) k) ≡ A (callVar (L .calls) l)
         root (q, hq, c) =
-            sym (call-number k (omega arith))
+            sym (call-number k hk)
             ∙ ap nat (tells-out (cong-tells L F A fits _ _ _ _ _ (rootOf L q) c) (eqb-true _ _ (true-roots q hq)) (tabulate-at _ _ (argCount (L .calls) k) same))
             ∙ call-number l hl
 
@@ -196,8 +224,8 @@ module _ (L : Lowering) (F : Formed L) (M : Matched L) (A : ℕ → ℕ) (fits :
             let width = node-var (rowAt Target (L .target .rows) (callVar (L .calls) q)) w (rw (z .variable-is) t) .1 in
             let l : p ≤ q = first-upto (callHit L A f w vs) _ q (call-hits q f w vs (z .function-is) width n) in
             let b : p < callCount (L .calls) = omega (arith, z .inside) in
-            let (e, _, s) = call-hit p f w vs (first-hit (callHit L A f w vs) _ b) in
-            at-result f w vs ∙ rw (lt-ltb _ _ b) (calls-agree p q l (z .inside) (e ∙ sym (z .function-is)) (s ∙ sym n) ∙ ap A (z .variable-is))
+            let (e, y, s) = call-hit p f w vs (first-hit (callHit L A f w vs) _ b) in
+            at-result f w vs ∙ rw (lt-ltb _ _ b) (calls-agree p q l (z .inside) (e ∙ sym (z .function-is)) (y ∙ sym width) (s ∙ sym n) ∙ ap A (z .variable-is))
 
     pub backward-agree : (i : ℕ) → Agree L F M I A fits i
     backward-agree = agree-rows L F M I A fits (λ i w k e. variable-at L A J i ∙ rw (lt-ltb _ _ (k .1))) leaf-read leaf-call

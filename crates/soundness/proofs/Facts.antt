@@ -1,7 +1,7 @@
 -- What acceptance says of every mapped row, entry and root, without classes: all that the two directions of the theorem use. Assumes nothing.
 use Prim.Native.Nat.{ℕ, _<_}
 use mathlib.Core.Path.{_≡_}
-use mathlib.Core.Bool.{true, false}
+use mathlib.Core.Bool.{Bool, true, false}
 use mathlib.Core.Logic.{_⊎_}
 use mathlib.Core.List.{[], map}
 use lib.Dec.{eqb}
@@ -47,6 +47,10 @@ module _ (L : Lowering) where
 
   abbrev pub Image : ℕ → Type 0
   Image y = (x : ℕ) × Mapped x × (m x ≡ y)
+
+  -- entries k and l are calls of one function
+  abbrev pub oneFunction : ℕ → ℕ → Bool
+  oneFunction k l = sameFunction (L .calls) (L .cargs) (widthsOfTarget L) k l
 
   -- the layer below: both graphs are well formed, the target holds core rows and bits
   pub record Formed : Type 0 where
@@ -133,7 +137,7 @@ module _ (L : Lowering) where
       (k : ℕ) × (l : ℕ) × (k < readCount (L .reads)) × (l < readCount (L .reads)) × (readArray (L .reads) k ≡ readArray (L .reads) l) × ReadCong k l r
 
   abbrev pub CallPair : ℕ → Type 0
-  CallPair r = (k : ℕ) × (l : ℕ) × (k < callCount (L .calls)) × (l < callCount (L .calls)) × (sameFunction (L .calls) k l ≡ true) × CallCong k l r
+  CallPair r = (k : ℕ) × (l : ℕ) × (k < callCount (L .calls)) × (l < callCount (L .calls)) × (oneFunction k l ≡ true) × CallCong k l r
 
   -- position q of the target's roots
   abbrev pub rootOf : ℕ → ℕ
@@ -149,6 +153,6 @@ module _ (L : Lowering) where
     pub cong-read : (k l : ℕ) → k < l → l < readCount (L .reads) → readArray (L .reads) k ≡ readArray (L .reads) l
         → (unequalConst (L .target .bits) (rowAt Target (L .target .rows) (readIndex (L .reads) k)) (rowAt Target (L .target .rows) (readIndex (L .reads) l)) ≡ true)
         ⊎ ((q : ℕ) × (q < length (L .troots)) × ReadCong k l (rootOf q))
-    pub cong-call : (k l : ℕ) → k < l → l < callCount (L .calls) → sameFunction (L .calls) k l ≡ true
+    pub cong-call : (k l : ℕ) → k < l → l < callCount (L .calls) → oneFunction k l ≡ true
         → (q : ℕ) × (q < length (L .troots)) × CallCong k l (rootOf q)
     pub only : (q : ℕ) → q < length (L .troots) → (q < length (L .eroots)) ⊎ (ReadPair (rootOf q) ⊎ CallPair (rootOf q))

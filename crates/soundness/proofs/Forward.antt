@@ -25,13 +25,13 @@ use Rattle.lowering.specs.Images.{mapAt, fieldAt}
 use Rattle.lowering.specs.Tables.{readCount, readVar, readArray, readIndex, callCount, callVar, callFunction, argCount, callArg, sameFunction}
 use Rattle.lowering.specs.Lowering.{Lowering, sourceRows, targetRows}
 use Rattle.soundness.specs.Transfer.{origin, isOrigin, varOrigin, readOf, callOf, originValue, readCell, callResult, assignment}
-use Rattle.soundness.proofs.Facts.{S, T, m, Mapped, Formed, Owner, by-var, by-read, by-call, Owns, ReadPair, CallPair, Matched, rootOf}
+use Rattle.soundness.proofs.Facts.{S, T, m, Mapped, oneFunction, Formed, Owner, by-var, by-read, by-call, Owns, ReadPair, CallPair, Matched, rootOf}
 use Rattle.soundness.proofs.Images.{var-row}
 use Rattle.soundness.proofs.Tells.{tv, row-value, cong-tells, cong-width, tells-in}
 use Rattle.soundness.proofs.Agree.{sv, Agree, LeafRead, LeafCall, agree-rows}
 
 -- calls of one function have one number and one count
-pub same-function : (L : Lowering) (k l : ℕ) → sameFunction (L .calls) k l ≡ true
+pub same-function : (L : Lowering) (k l : ℕ) → oneFunction L k l ≡ true
     → (callFunction (L .calls) k ≡ callFunction (L .calls) l) × (argCount (L .calls) k ≡ argCount (L .calls) l)
 unfolding sameFunction
 same-function L k l e = let (a, (b, _)) = all-true _ e in (eqb-true _ _ a, eqb-true _ _ b)

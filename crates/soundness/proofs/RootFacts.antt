@@ -17,12 +17,12 @@ use Rattle.lists.proofs.Tests.{all-true}
 use Rattle.rows.specs.declared.Graph.the-variants.{Target}
 use Rattle.rows.specs.Row.{MAX, rowAt}
 use Rattle.lowering.specs.Images.{unequalConst}
-use Rattle.lowering.specs.Tables.{readCount, readArray, readIndex, callCount, sameFunction}
+use Rattle.lowering.specs.Tables.{readCount, readArray, readIndex, callCount}
 use Rattle.lowering.specs.Matching.{rowAnswer}
 use Rattle.lowering.specs.Roots.{Pair, pair, pairs, leads, readsNeed, rootAt, readRoot, callRoot}
 use Rattle.lowering.specs.Lowering.{Lowering, sourceRows, targetRows}
 use Rattle.lowering.specs.Check.{callRoots}
-use Rattle.soundness.proofs.Facts.{m, Mapped, ReadCong, CallCong, ReadPair, CallPair, rootOf}
+use Rattle.soundness.proofs.Facts.{m, Mapped, oneFunction, ReadCong, CallCong, ReadPair, CallPair, rootOf}
 use Rattle.soundness.proofs.Pairs.{At, Needed, pairs-has, pairs-only}
 use Rattle.soundness.specs.Passed.{Passed}
 
@@ -109,10 +109,10 @@ module _ (L : Lowering) (P : Passed L) where
       (λ p. inr (has-root (L .troots) (readRoot (L .reads) (L .target .rows)) (readsNeed (L .reads) (L .target .rows) (L .target .bits)) (length (L .eroots)) (readCount (L .reads)) (P .read-roots) k l h u p))
       (reads-need L k l e)
 
-  pub cong-call : (k l : ℕ) → k < l → l < callCount (L .calls) → sameFunction (L .calls) k l ≡ true
+  pub cong-call : (k l : ℕ) → k < l → l < callCount (L .calls) → oneFunction L k l ≡ true
       → (q : ℕ) × (q < length (L .troots)) × CallCong L k l (rootOf L q)
   cong-call =
-      has-root (L .troots) (callRoot (L .calls) (L .cargs) (L .target .rows)) (sameFunction (L .calls)) (callRoots L) (callCount (L .calls)) (P .call-roots)
+      has-root (L .troots) (callRoot (L .calls) (L .cargs) (L .target .rows)) (oneFunction L) (callRoots L) (callCount (L .calls)) (P .call-roots)
 
   pub only : (q : ℕ) → q < length (L .troots) → (q < length (L .eroots)) ⊎ (ReadPair L (rootOf L q) ⊎ CallPair L (rootOf L q))
   only q h =
@@ -125,5 +125,5 @@ module _ (L : Lowering) (P : Passed L) where
 
       call : callRoots L ≤ q → CallPair L (rootOf L q)
       call v =
-          is-root (L .troots) (callRoot (L .calls) (L .cargs) (L .target .rows)) (sameFunction (L .calls)) (callRoots L) (callCount (L .calls)) (P .call-roots) q v
+          is-root (L .troots) (callRoot (L .calls) (L .cargs) (L .target .rows)) (oneFunction L) (callRoots L) (callCount (L .calls)) (P .call-roots) q v
           (omega (arith, h, P .roots-end))

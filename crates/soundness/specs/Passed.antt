@@ -20,7 +20,7 @@ pub record Reached (L : Lowering) (n : ℕ) : Type 0 where
   pub reads : (k : ℕ) → k < readCount (L .reads)
       → readGood (L .reads) (L .target .rows) (widthsOfTarget L) (readClasses (L .reads) (noClasses L) k) k ≡ true
   pub calls : (k : ℕ) → k < callCount (L .calls)
-      → callGood (L .calls) (L .cargs) (L .target .rows) (callClasses (L .calls) (classesOfReads L) k) k ≡ true
+      → callGood (L .calls) (L .cargs) (L .target .rows) (widthsOfTarget L) (callClasses (L .calls) (classesOfReads L) k) k ≡ true
   pub rows : (i : ℕ) → i < n → isAccepted (answerOf L i) ≡ true
 
 -- when it accepts: encoding (16, 17), form (1, 2), map (3), tables and rows, no dead entry (14), roots (12, 13)
