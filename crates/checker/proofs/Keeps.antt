@@ -111,9 +111,9 @@ module _ (L : Lowering) where
   r = badRead (L .reads) (L .target .rows) (widthsOfTarget L) (noClasses L)
 
   abbrev c : ℕ
-  c = badCall (L .calls) (L .cargs) (L .target .rows) (classesOfReads L)
+  c = badCall (L .calls) (L .cargs) (L .target .rows) (widthsOfTarget L) (classesOfReads L)
 
-  keeps-roots : Zero (rootAnswers (entriesOf L) (L .target) (L .map) (L .eroots) (L .troots))
+  keeps-roots : Zero (rootAnswers (entriesOf L) (L .target) (widthsOfTarget L) (L .map) (L .eroots) (L .troots))
   keeps-roots = (keeps-refuse (ltb lead (length (L .eroots))) (RootMismatch lead) refl, (keeps-refuse (ltb x (length ps)) (CongruenceMismatch (length (L .eroots) + x)) refl, (keeps-refuse (ltb y (length qs)) (CongruenceMismatch (length (L .eroots) + length ps + y)) refl, (keeps-refuse (not (eqb (length (L .troots)) (length (L .eroots) + length ps + length qs))) (RootMismatch 0) refl, tt))))
     where
       lead : ℕ
@@ -123,7 +123,7 @@ module _ (L : Lowering) where
       ps = readPairs (L .reads) (L .target .rows) (L .target .bits)
 
       qs : List Pair
-      qs = callPairs (L .calls)
+      qs = callPairs (L .calls) (L .cargs) (widthsOfTarget L)
 
       x : ℕ
       x = badCong (L .troots) (readRoot (L .reads) (L .target .rows)) (length (L .eroots)) ps

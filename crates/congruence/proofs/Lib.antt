@@ -1,2 +1,3 @@
 pub mod Nest
 pub mod Inside
+pub mod Even

@@ -8,7 +8,7 @@ ghost use Rattle.lists.specs.Tests.{all};
 ghost use Rattle.lowering.specs.Tables.{callCount, sameFunction};
 ghost use Rattle.lowering.specs.Roots.{pairsWith, callPairs, allEqual, congruent, callRoot};
 ghost use Rattle.pairs.specs.Walk.{walked};
-ghost use Rattle.congruence.specs.Calls.{CallsIn};
+ghost use Rattle.congruence.specs.Calls.{CallsIn, EqsEven};
 use pairs::Cong;
 use rows::Graph;
 use rows::tag;
@@ -66,19 +66,23 @@ fn call_stands(
     ante_ok(target, cargs, sp as usize, sq as usize, k as usize, a)
 }
 
-// The pairs of entry k with later ones; their roots stand from idx0 on.
+// The pairs of entry k with later ones; their roots stand from idx0 on. A root that stands says that the pair is of one function, since Eq takes
+// operands of one width; so the widths are compared only where none stands.
 fn uf_cong_for(
     calls: &[u64],
     cargs: &[u64],
     target: &[u64],
+    ws: &[u64],
     troots: &[u64],
     k: usize,
     idx0: usize,
 ) -> Cong
     requires { ⌜ CallsIn (now calls) (now cargs) ⌝ }
+    requires { ⌜ EqsEven (now target) (now ws) ⌝ }
     requires { ⌜ k < callCount (now calls) ⌝ }
     ensures walk { λ r. ⌜ r ≡ walked (now (troots .entry)) (callRoot (now (calls .entry)) (now (cargs .entry)) (now (target .entry))) idx0
-        (pairsWith (sameFunction (now (calls .entry))) k (k + 1) (callCount (now (calls .entry)) - (k + 1))) ⌝ }
+        (pairsWith (sameFunction (now (calls .entry)) (now (cargs .entry)) (now (ws .entry))) k (k + 1)
+        (callCount (now (calls .entry)) - (k + 1))) ⌝ }
 {
     let n = tables::call_count(calls);
     let at = k * 4;
@@ -92,13 +96,14 @@ fn uf_cong_for(
         let o = l * 4;
         if keys::function_is(calls, o, fid, count) {
             let sq = calls[o + 2];
-            if !call_stands(cargs, target, troots, idx, sp, sq, count, vp, calls[o]) {
+            if call_stands(cargs, target, troots, idx, sp, sq, count, vp, calls[o]) {
+                idx += 1;
+            } else if keys::same_function(calls, cargs, ws, at, o) {
                 return Cong {
                     ok: false,
                     next: idx,
                 };
             }
-            idx += 1;
         }
         l += 1;
     }
@@ -108,17 +113,18 @@ fn uf_cong_for(
     }
 }
 
-// All pairs of calls of one function and argument count.
-pub fn uf_cong(calls: &[u64], cargs: &[u64], target: &[u64], troots: &[u64], idx0: usize) -> Cong
+// All pairs of calls of one function.
+pub fn uf_cong(calls: &[u64], cargs: &[u64], target: &[u64], ws: &[u64], troots: &[u64], idx0: usize) -> Cong
     requires { ⌜ CallsIn (now calls) (now cargs) ⌝ }
+    requires { ⌜ EqsEven (now target) (now ws) ⌝ }
     ensures walk { λ r. ⌜ r ≡ walked (now (troots .entry)) (callRoot (now (calls .entry)) (now (cargs .entry)) (now (target .entry))) idx0
-        (callPairs (now (calls .entry))) ⌝ }
+        (callPairs (now (calls .entry)) (now (cargs .entry)) (now (ws .entry))) ⌝ }
 {
     let n = tables::call_count(calls);
     let mut idx = idx0;
     let mut k = 0;
     while k < n {
-        let c = uf_cong_for(calls, cargs, target, troots, k, idx);
+        let c = uf_cong_for(calls, cargs, target, ws, troots, k, idx);
         if !c.ok {
             return c;
         }

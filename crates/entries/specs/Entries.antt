@@ -35,25 +35,25 @@ free which target cls v = all (ltb v (rowCount Target target) ∷ isVar which (r
 abbrev pub argsIn : List ℕ → ℕ → ℕ → ℕ → Bool
 argsIn cargs s k n = all (leb (s + k) (length cargs) ∷ none (λ l. leb n (getD cargs (s + l) 0)) k ∷ [])
 
--- a table's own tests of entry k; n is the number of target rows
+-- a table's own tests of entry k; n is the number of target rows, ws are their widths
 abbrev pub readOwn : List ℕ → List ℕ → ℕ → List Bool
 readOwn reads ws k = hasWidth ws (readIndex reads k) 32 ∷ none (λ l. sameRead reads l k) k ∷ []
 
-abbrev pub callOwn : List ℕ → List ℕ → ℕ → ℕ → List Bool
-callOwn calls cargs n k =
+abbrev pub callOwn : List ℕ → List ℕ → List ℕ → ℕ → ℕ → List Bool
+callOwn calls cargs ws n k =
     leb (callStart calls k + argCount calls k) (length cargs)
     ∷ none (λ l. leb n (callArg calls cargs k l)) (argCount calls k)
-    ∷ none (λ l. sameCall calls cargs l k) k
+    ∷ none (λ l. sameCall calls cargs ws l k) k
     ∷ []
 
 abbrev pub own : Table → List ℕ → List ℕ → List ℕ → ℕ → ℕ → List Bool
 own Reads table cargs ws n k = readOwn table ws k
-own Calls table cargs ws n k = callOwn table cargs n k
+own Calls table cargs ws n k = callOwn table cargs ws n k
 
 -- entry k is good, with the classes after the entries before
 abbrev pub good : Table → List ℕ → List ℕ → List ℕ → List ℕ → List ℕ → ℕ → Bool
 good Reads table cargs target ws cls k = readGood table target ws cls k
-good Calls table cargs target ws cls k = callGood table cargs target cls k
+good Calls table cargs target ws cls k = callGood table cargs target ws cls k
 
 -- where calls are searched, the arguments of the entries before k lie in the argument list
 abbrev pub ArgsBefore : Table → List ℕ → List ℕ → ℕ → Type 0

@@ -69,16 +69,16 @@ fn read_own(reads: &[u64], ws: &[u64], k: usize) -> bool
 }
 
 // A call entry's own tests: its arguments, its key.
-fn call_own(calls: &[u64], cargs: &[u64], n: u64, k: usize) -> bool
+fn call_own(calls: &[u64], cargs: &[u64], ws: &[u64], n: u64, k: usize) -> bool
     requires { ⌜ k * 4 + 4 ≤ length (now calls) ⌝ }
     requires { ⌜ ArgsInside (now calls) (now cargs) k ⌝ }
-    ensures test { λ b. ⌜ b ≡ all (callOwn (now (calls .entry)) (now (cargs .entry)) n k) ⌝ }
+    ensures test { λ b. ⌜ b ≡ all (callOwn (now (calls .entry)) (now (cargs .entry)) (now (ws .entry)) n k) ⌝ }
 {
     let off = k * 4;
     if !args_in_range(cargs, calls[off + 2], calls[off + 3], n) {
         return false;
     }
-    !keys::call_dup(calls, cargs, k)
+    !keys::call_dup(calls, cargs, ws, k)
 }
 
 fn own_good(which: Table, table: &[u64], cargs: &[u64], ws: &[u64], n: u64, k: usize) -> bool
@@ -88,7 +88,7 @@ fn own_good(which: Table, table: &[u64], cargs: &[u64], ws: &[u64], n: u64, k: u
 {
     match which {
         Table::Reads => read_own(table, ws, k),
-        Table::Calls => call_own(table, cargs, n, k),
+        Table::Calls => call_own(table, cargs, ws, n, k),
     }
 }
 

@@ -1,14 +1,16 @@
 -- Laws of keys: the key at an entry's offset is the entry's, each entry has its own, functions are told apart either way round. Assumes nothing.
 use Prim.Native.Nat.{ℕ, _*_}
-use mathlib.Core.Path.{_≡_, refl, sym, ap}
+use mathlib.Core.Path.{_≡_, refl, sym, _∙_}
 use mathlib.Core.Bool.{Bool, true, false}
-use mathlib.Core.List.{List}
+use mathlib.Core.List.{List, [], _∷_}
 use borrow.Author.Tests.{eq-eqb, eqb-true, eqb-false, ne-eqb}
 use lib.Dec.{eqb}
 use Rattle.lists.specs.Tests.{all}
-use Rattle.lists.proofs.Tests.{agree-yes}
-use Rattle.lowering.specs.Tables.{readArray, readIndex, callFunction, callStart, argCount, callArg, sameRead, sameFunction, sameCall}
-use Rattle.keys.specs.Keys.{readIs, functionIs, callIs}
+use Rattle.lists.proofs.Tests.{all-true, agree-yes}
+use Rattle.lowering.specs.Tables.{readArray, readIndex, callFunction, callStart, argCount, callArg, resultWidth, argWidth}
+use Rattle.lowering.specs.Tables.{sameRead, sameFunction, sameCall}
+use Rattle.keys.specs.Keys.{readIs, functionIs, callIs, functionsAgree}
+use Rattle.keys.proofs.Order.{fails, two}
 
 eqb-sym : (a b : ℕ) → eqb a b ≡ eqb b a
 eqb-sym a b = go (eqb a b) refl
@@ -16,6 +18,17 @@ eqb-sym a b = go (eqb a b) refl
     go : (t : Bool) → eqb a b ≡ t → t ≡ eqb b a
     go true e = sym (eq-eqb b a (sym (eqb-true a b e)))
     go false e = sym (ne-eqb b a (λ z. eqb-false a b e (sym z)))
+
+-- number and count with the rows, then function: function, then rows
+regroup : (a b c d e : Bool)
+    → all (all (all (a ∷ b ∷ []) ∷ e ∷ []) ∷ all (all (a ∷ b ∷ []) ∷ c ∷ d ∷ []) ∷ []) ≡ all (all (a ∷ b ∷ c ∷ d ∷ []) ∷ e ∷ [])
+unfolding all
+regroup false b c d e = refl
+regroup true false c d e = refl
+regroup true true c d true = refl
+regroup true true true true false = refl
+regroup true true true false false = refl
+regroup true true false d false = refl
 
 -- reads
 module _ (reads : List ℕ) where
@@ -28,22 +41,38 @@ module _ (reads : List ℕ) where
   read-self k = rw (eq-eqb (readArray reads k) (readArray reads k) refl, eq-eqb (readIndex reads k) (readIndex reads k) refl)
 
 -- calls
-module _ (calls : List ℕ) where
-  pub function-at : (k l : ℕ) → functionIs calls (l * 4) (callFunction calls k) (argCount calls k) ≡ sameFunction calls k l
+module _ (calls cargs ws : List ℕ) where
+  pub same-function-at : (p q k l : ℕ) → p ≡ k * 4 → q ≡ l * 4 → functionsAgree calls cargs ws p q ≡ sameFunction calls cargs ws k l
   unfolding sameFunction
-  function-at k l = rw (eqb-sym (callFunction calls l) (callFunction calls k), eqb-sym (argCount calls l) (argCount calls k))
+  same-function-at p q k l e f = rw (e, f) (two _ _ _)
 
-  module _ (cargs : List ℕ) where
-    pub same-call-at : (off i k : ℕ) → off ≡ i * 4
-        → callIs calls cargs off (callFunction calls k) (callStart calls k) (argCount calls k) ≡ sameCall calls cargs i k
-    unfolding sameCall sameFunction
-    same-call-at off i k e = ap (λ (z : ℕ). callIs calls cargs z (callFunction calls k) (callStart calls k) (argCount calls k)) e
+  -- another number or count is another function, either way round; one number and count give one count
+  pub other-function : (k l : ℕ) → functionIs calls (l * 4) (callFunction calls k) (argCount calls k) ≡ false → sameFunction calls cargs ws k l ≡ false
+  unfolding sameFunction
+  other-function k l e =
+      sym (two _ _ _)
+      ∙ sym (fails _ (rw (eqb-sym (callFunction calls l) (callFunction calls k), eqb-sym (argCount calls l) (argCount calls k)) at e))
 
-    pub call-self : (k : ℕ) → sameCall calls cargs k k ≡ true
-    unfolding sameCall sameFunction all
-    call-self k =
-        rw (
-          eq-eqb (callFunction calls k) (callFunction calls k) refl,
-          eq-eqb (argCount calls k) (argCount calls k) refl,
-          agree-yes (callArg calls cargs k) (callArg calls cargs k) (argCount calls k) (λ _ _. refl),
-        )
+  pub one-count : (k l : ℕ) → functionIs calls (l * 4) (callFunction calls k) (argCount calls k) ≡ true
+      → (callFunction calls k ≡ callFunction calls l) × (argCount calls k ≡ argCount calls l)
+  one-count k l e =
+      let (f, (n, _)) = all-true _ e in
+      (sym (eqb-true (callFunction calls l) (callFunction calls k) f), sym (eqb-true (argCount calls l) (argCount calls k) n))
+
+  -- the key: function and arguments, in whichever order they are asked for
+  pub same-call-at : (off i k : ℕ) → off ≡ i * 4
+      → all (callIs calls cargs off (callFunction calls k) (callStart calls k) (argCount calls k) ∷ functionsAgree calls cargs ws off (k * 4) ∷ [])
+      ≡ sameCall calls cargs ws i k
+  unfolding sameCall sameFunction
+  same-call-at off i k e = rw e (regroup _ _ _ _ _)
+
+  pub call-self : (k : ℕ) → sameCall calls cargs ws k k ≡ true
+  unfolding sameCall sameFunction all
+  call-self k =
+      rw (
+        eq-eqb (callFunction calls k) (callFunction calls k) refl,
+        eq-eqb (argCount calls k) (argCount calls k) refl,
+        eq-eqb (resultWidth calls ws k) (resultWidth calls ws k) refl,
+        agree-yes (argWidth calls cargs ws k) (argWidth calls cargs ws k) (argCount calls k) (λ _ _. refl),
+        agree-yes (callArg calls cargs k) (callArg calls cargs k) (argCount calls k) (λ _ _. refl),
+      )

@@ -12,7 +12,7 @@ use Rattle.lowering.specs.Tables.{callStart, argCount}
 abbrev pub readIs : List ℕ → ℕ → ℕ → ℕ → Bool
 readIs reads off array index = all (eqb (getD reads (off + 1) 0) array ∷ eqb (getD reads (off + 2) 0) index ∷ [])
 
--- the call entry at an offset is of this function: `sameFunction` at the offset
+-- the call entry at an offset has this function number and count
 abbrev pub functionIs : List ℕ → ℕ → ℕ → ℕ → Bool
 functionIs calls off f n = all (eqb (getD calls (off + 1) 0) f ∷ eqb (getD calls (off + 3) 0) n ∷ [])
 
@@ -20,9 +20,26 @@ functionIs calls off f n = all (eqb (getD calls (off + 1) 0) f ∷ eqb (getD cal
 abbrev pub argsEq : List ℕ → ℕ → ℕ → ℕ → Bool
 argsEq cargs s t n = agree (λ l. getD cargs (s + l) 0) (λ l. getD cargs (t + l) 0) n
 
--- the call entry at an offset has this key
+-- the call entry at an offset has this function number, count and arguments
 abbrev pub callIs : List ℕ → List ℕ → ℕ → ℕ → ℕ → ℕ → Bool
 callIs calls cargs off f s n = all (functionIs calls off f n ∷ argsEq cargs (getD calls (off + 2) 0) s n ∷ [])
+
+-- two stretches of n arguments have the same widths
+abbrev pub argWidthsEq : List ℕ → List ℕ → ℕ → ℕ → ℕ → Bool
+argWidthsEq cargs ws s t n = agree (λ l. getD ws (getD cargs (s + l) 0) 0) (λ l. getD ws (getD cargs (t + l) 0) 0) n
+
+-- the call entries at two offsets are of one function: `sameFunction` at the offsets
+abbrev pub functionsAgree : List ℕ → List ℕ → List ℕ → ℕ → ℕ → Bool
+functionsAgree calls cargs ws p q =
+    all
+    (functionIs calls p (getD calls (q + 1) 0) (getD calls (q + 3) 0)
+    ∷ eqb (getD ws (getD calls p 0) 0) (getD ws (getD calls q 0) 0)
+    ∷ argWidthsEq cargs ws (getD calls (p + 2) 0) (getD calls (q + 2) 0) (getD calls (q + 3) 0)
+    ∷ [])
+
+-- the arguments of the call entry at an offset lie in the argument list
+abbrev pub ArgsAt : List ℕ → List ℕ → ℕ → Type 0
+ArgsAt calls cargs off = getD calls (off + 2) 0 + getD calls (off + 3) 0 ≤ length cargs
 
 -- the arguments of the entries before k lie in the argument list
 abbrev pub ArgsInside : List ℕ → List ℕ → ℕ → Type 0

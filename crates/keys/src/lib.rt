@@ -1,11 +1,13 @@
 // Keys of table entries: what tells two functions apart, and whether an entry before has the same key.
 ghost use mathlib.Core.Path.{_≡_};
 ghost use mathlib.Core.Bool.{not};
+ghost use mathlib.Core.List.{[], _∷_};
 ghost use Prim.Native.Nat.{_≤_, _+_, _*_};
 ghost use lib.ListN.{length, getD};
 ghost use Rattle.lists.specs.First.{none};
+ghost use Rattle.lists.specs.Tests.{all};
 ghost use Rattle.lowering.specs.Tables.{sameRead, sameCall};
-ghost use Rattle.keys.specs.Keys.{readIs, functionIs, argsEq, callIs, ArgsInside};
+ghost use Rattle.keys.specs.Keys.{readIs, functionIs, argsEq, callIs, argWidthsEq, functionsAgree, ArgsAt, ArgsInside};
 
 // The read entry at off has this key.
 fn read_is(reads: &[u64], off: usize, array: u64, index: u64) -> bool
@@ -33,7 +35,7 @@ pub fn read_dup(reads: &[u64], k: usize) -> bool
     off < upto
 }
 
-// The call entry at off is of function f with n arguments: what tells two functions apart, for keys and for congruence.
+// The call entry at off has function number f and n arguments.
 pub fn function_is(calls: &[u64], off: usize, f: u64, n: u64) -> bool
     requires { ⌜ off + 4 ≤ length (now calls) ⌝ }
     ensures test { λ b. ⌜ b ≡ functionIs (now (calls .entry)) off f n ⌝ }
@@ -59,10 +61,9 @@ fn args_eq(cargs: &[u64], s: usize, t: usize, n: usize) -> bool
     true
 }
 
-// The call entry at off has this key.
+// The call entry at off has function number f and the n arguments from s on.
 fn call_is(calls: &[u64], cargs: &[u64], off: usize, f: u64, s: u64, n: u64) -> bool
-    requires { ⌜ (off + 4 ≤ length (now calls)) × (getD (now calls) (off + 2) 0 + getD (now calls) (off + 3) 0 ≤ length (now cargs))
-        × (s + n ≤ length (now cargs)) ⌝ }
+    requires { ⌜ (off + 4 ≤ length (now calls)) × ArgsAt (now calls) (now cargs) off × (s + n ≤ length (now cargs)) ⌝ }
     ensures test { λ b. ⌜ b ≡ callIs (now (calls .entry)) (now (cargs .entry)) off f s n ⌝ }
 {
     if !function_is(calls, off, f, n) {
@@ -71,18 +72,75 @@ fn call_is(calls: &[u64], cargs: &[u64], off: usize, f: u64, s: u64, n: u64) -> 
     args_eq(cargs, calls[off + 2] as usize, s as usize, n as usize)
 }
 
+// The width of a row; 0 past the rows.
+fn width_at(ws: &[u64], r: u64) -> u64
+    ensures width { λ w. ⌜ w ≡ getD (now (ws .entry)) r 0 ⌝ }
+{
+    if ws.len() as u64 <= r {
+        return 0;
+    }
+    ws[r as usize]
+}
+
+// The n arguments from s on have the widths of those from t on.
+fn arg_widths_eq(cargs: &[u64], ws: &[u64], s: usize, t: usize, n: usize) -> bool
+    requires { ⌜ (s + n ≤ length (now cargs)) × (t + n ≤ length (now cargs)) ⌝ }
+    ensures test { λ b. ⌜ b ≡ argWidthsEq (now (cargs .entry)) (now (ws .entry)) s t n ⌝ }
+{
+    let mut l = 0;
+    while l < n {
+        let w = width_at(ws, cargs[s + l]);
+        if w != width_at(ws, cargs[t + l]) {
+            return false;
+        }
+        l += 1;
+    }
+    true
+}
+
+// The call entries at p and q are of one function: number, count, the widths of results and arguments. It tells functions apart for keys and for
+// congruence.
+pub fn same_function(calls: &[u64], cargs: &[u64], ws: &[u64], p: usize, q: usize) -> bool
+    requires { ⌜ (p + 4 ≤ length (now calls)) × (q + 4 ≤ length (now calls)) ⌝ }
+    requires { ⌜ ArgsAt (now calls) (now cargs) p × ArgsAt (now calls) (now cargs) q ⌝ }
+    ensures test { λ b. ⌜ b ≡ functionsAgree (now (calls .entry)) (now (cargs .entry)) (now (ws .entry)) p q ⌝ }
+{
+    let n = calls[q + 3];
+    if !function_is(calls, p, calls[q + 1], n) {
+        return false;
+    }
+    let w = width_at(ws, calls[p]);
+    if w != width_at(ws, calls[q]) {
+        return false;
+    }
+    arg_widths_eq(cargs, ws, calls[p + 2] as usize, calls[q + 2] as usize, n as usize)
+}
+
+// The call entry at off has the key of the one at q, which is of function number f with n arguments from s on. Rows first: rarely do these agree.
+fn call_again(calls: &[u64], cargs: &[u64], ws: &[u64], off: usize, q: usize, f: u64, s: u64, n: u64) -> bool
+    requires { ⌜ (off + 4 ≤ length (now calls)) × (q + 4 ≤ length (now calls)) × (s + n ≤ length (now cargs)) ⌝ }
+    requires { ⌜ ArgsAt (now calls) (now cargs) off × ArgsAt (now calls) (now cargs) q ⌝ }
+    ensures test { λ b. ⌜ b ≡ all (callIs (now (calls .entry)) (now (cargs .entry)) off f s n
+        ∷ functionsAgree (now (calls .entry)) (now (cargs .entry)) (now (ws .entry)) off q ∷ []) ⌝ }
+{
+    if !call_is(calls, cargs, off, f, s, n) {
+        return false;
+    }
+    same_function(calls, cargs, ws, off, q)
+}
+
 // A call entry before k has its key. Entry k ends the search here too.
-pub fn call_dup(calls: &[u64], cargs: &[u64], k: usize) -> bool
+pub fn call_dup(calls: &[u64], cargs: &[u64], ws: &[u64], k: usize) -> bool
     requires { ⌜ k * 4 + 4 ≤ length (now calls) ⌝ }
     requires { ⌜ ArgsInside (now calls) (now cargs) (k + 1) ⌝ }
-    ensures test { λ b. ⌜ b ≡ not (none (λ l. sameCall (now (calls .entry)) (now (cargs .entry)) l k) k) ⌝ }
+    ensures test { λ b. ⌜ b ≡ not (none (λ l. sameCall (now (calls .entry)) (now (cargs .entry)) (now (ws .entry)) l k) k) ⌝ }
 {
     let upto = k * 4;
     let f = calls[upto + 1];
     let s = calls[upto + 2];
     let n = calls[upto + 3];
     let mut off = 0;
-    while !call_is(calls, cargs, off, f, s, n) {
+    while !call_again(calls, cargs, ws, off, upto, f, s, n) {
         off += 4;
     }
     off < upto

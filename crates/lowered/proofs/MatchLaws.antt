@@ -34,13 +34,13 @@ module _ (L : Lowering) where
   tablesAnswer = firstRefusal (tableAnswers (entriesOf L) (L .target .rows) (widthsOfTarget L) (noClasses L))
 
   abbrev pub rootsAnswer : Answer
-  rootsAnswer = firstRefusal (rootAnswers (entriesOf L) (L .target) (L .map) (L .eroots) (L .troots))
+  rootsAnswer = firstRefusal (rootAnswers (entriesOf L) (L .target) (widthsOfTarget L) (L .map) (L .eroots) (L .troots))
 
   abbrev rest : List Answer
   rest =
       rowsRefusal L
       ∷ refuse (ltb (deadVariable L) (targetRows L)) (DeadEntry (deadVariable L))
-      ∷ rootAnswers (entriesOf L) (L .target) (L .map) (L .eroots) (L .troots)
+      ∷ rootAnswers (entriesOf L) (L .target) (widthsOfTarget L) (L .map) (L .eroots) (L .troots)
 
   pub map-3 : (length (L .map) ≡ sourceRows L → ⊥) → answer ≡ MapLength (sourceRows L) (length (L .map))
   unfolding firstRefusal
@@ -88,7 +88,7 @@ module _ (L : Lowering) where
 
     pub calls-inside : CallsIn (L .calls) (L .cargs)
     calls-inside =
-        calls-in (L .calls) (L .cargs) (L .target .rows) (callClasses (L .calls) (classesOfReads L))
+        calls-in (L .calls) (L .cargs) (L .target .rows) (widthsOfTarget L) (callClasses (L .calls) (classesOfReads L))
         (let (_, (calls, _)) = each _ b in all-pass _ (callCount (L .calls)) (not-refused _ (CallTable _) refl calls))
 
 -- the steps of the code on plain lists: what each call has answered and left
@@ -143,5 +143,6 @@ module _ (L : Lowering) (ws cls0 ent0 : List ℕ) (wide : ws ≡ widthsOfTarget 
           pub dead-done : dead < length cls2 → Done (DeadEntry dead) cls2 ent1
           dead-done h = refused (DeadEntry dead) cls2 ent1 (ap DeadEntry dead-is ∙ sym (dead-14 L mapped passed-tables passed-rows (rw (dead-is, count) at h))) refl
 
-          pub roots-done : (a : Answer) → length cls2 ≤ dead → a ≡ rootsAnswer L → Done a cls2 ent1
-          roots-done a h e = (e ∙ sym (then-roots L mapped passed-tables passed-rows (rw (dead-is, count) at h)), (λ _. classes-are, λ _. ent-is))
+          pub roots-done : (a : Answer) → length cls2 ≤ dead
+              → a ≡ firstRefusal (rootAnswers (entriesOf L) (L .target) ws (L .map) (L .eroots) (L .troots)) → Done a cls2 ent1
+          roots-done a h e = (rw wide at e ∙ sym (then-roots L mapped passed-tables passed-rows (rw (dead-is, count) at h)), (λ _. classes-are, λ _. ent-is))

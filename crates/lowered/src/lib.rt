@@ -74,7 +74,7 @@ fn matches(
     if dead < cls.len() as u64 {
         return Answer::DeadEntry(dead);
     }
-    stages::roots(eroots, map, reads, calls, cargs, target, tbits, troots)
+    stages::roots(eroots, map, reads, calls, cargs, target, tbits, ws, troots)
 }
 
 // The same in lists with room to spare, whatever they hold before; zeros after the last row.

@@ -32,10 +32,10 @@ use Rattle.lowering.specs.Images.{fieldAt, bothConst, sameConst}
 use Rattle.lowering.specs.Matching.{isLevel, walk}
 use Rattle.lowering.specs.Lowering.{Lowering, sourceRows, targetRows}
 use Rattle.lowering.specs.Check.{widthsOfSource}
-use Rattle.lowering.proofs.Images.{const-row, both-const}
+use Rattle.lowering.proofs.Images.{const-row, both-const, eq-row}
 use Rattle.soundness.specs.Sound.{valueOfSource}
 use Rattle.soundness.proofs.Facts.{S, T, m, Mapped, Formed, SameCore, ReadOf, CallOf, Ends, walkOf, Found, Matched}
-use Rattle.soundness.proofs.Images.{eq-row, ite-row, same-const}
+use Rattle.soundness.proofs.Images.{ite-row, same-const}
 use Rattle.meaning.proofs.Values.{Pairs, pairs-formed, source-value, source-width}
 use Rattle.soundness.proofs.Tells.{tv, row-value, row-width, row-formed, eq-number, ite-number, val-ext}
 

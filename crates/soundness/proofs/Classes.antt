@@ -27,10 +27,10 @@ use Rattle.lowering.specs.Matching.{Kind, var, const, core, select, call, unkno
 use Rattle.lowering.specs.Lowering.{Lowering, bindingOf, targetRows}
 use Rattle.lowering.specs.Check.{classesOfTables, classes, offsets}
 use Rattle.lowering.proofs.Classes.{classes-keep-length}
+use Rattle.lowering.proofs.Images.{row-is}
 use Rattle.soundness.proofs.Facts.{S, T, m, Mapped, walkOf}
 use Rattle.soundness.specs.Passed.{Reached, Passed}
 use Rattle.rows.proofs.Tags.{one-of}
-use Rattle.soundness.proofs.Images.{row-is}
 use Rattle.soundness.proofs.Marks.{set-holds}
 use Rattle.soundness.proofs.Tables.{tables-length, ReadAt, CallAt, class-from, class-of-read, class-of-call}
 

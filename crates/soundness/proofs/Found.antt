@@ -25,9 +25,10 @@ use Rattle.lowering.specs.Images.{mapNode}
 use Rattle.lowering.specs.Matching.{endGood, nodeMatches}
 use Rattle.lowering.specs.Lowering.{Lowering, sourceRows, targetRows}
 use Rattle.lowering.specs.Check.{offsets}
+use Rattle.lowering.proofs.Images.{row-is}
 use Rattle.soundness.proofs.Facts.{S, T, m, Mapped, Formed, SameCore, CallOf, Ends, walkOf, Found}
 use Rattle.soundness.specs.Passed.{Passed}
-use Rattle.soundness.proofs.Images.{row-is, map-good, same-const}
+use Rattle.soundness.proofs.Images.{map-good, same-const}
 use Rattle.soundness.proofs.Tables.{ReadAt, CallAt, offset-of-read, offset-of-call}
 use Rattle.soundness.proofs.Classes.{test-of, answerAt, endOf, var-passed, ran-out, CallHere, call-passed, mapped-passed, read-at, call-at}
 

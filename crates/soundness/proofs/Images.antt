@@ -14,46 +14,12 @@ use Rattle.rows.specs.declared.Node.{Node}
 use Rattle.rows.specs.declared.Node.the-variants.{Var, Const, Un, Bin, Extract, Extend, Ite, Select, Call, Unknown}
 use Rattle.rows.specs.Row.{rowCount, rowAt}
 use Rattle.rows.specs.Tags.{tVar, tIte, tEq, tNot, tBoolAnd, tBoolOr}
-use Rattle.rows.proofs.Tags.{un-tags, extend-tags}
-use Rattle.rows.proofs.View.{TagGood, node-two, two-node}
-use Rattle.rows.specs.Node.{nodeFrom, nodeOf, rowEq}
+use Rattle.rows.proofs.View.{TagGood}
+use Rattle.rows.specs.Node.{nodeOf}
 use Rattle.value.specs.Operate.{parameters, constNumber}
 use Rattle.lowering.specs.Images.{mapNode, rowOf, rowIs, tagAt, fieldAt, sameConst}
 use Rattle.lowering.specs.Matching.{isEq, isLevel}
 use Rattle.lowering.proofs.Images.{const-row, both-const}
-
--- a node is read off its words again
-of-words : (node : Node) → TagGood node → nodeOf (rowOf node) ≡ node
-of-words (Var w) g = refl
-of-words (Const s w) g = refl
-of-words (Un t a) g = un-tags (λ t. nodeFrom t a 0 0 0 ≡ Un t a) t refl refl refl g
-of-words (Bin t a b) g = two-node t g a b 0 0
-of-words (Extract h l a) g = refl
-of-words (Extend t a n) g = extend-tags (λ t. nodeFrom t a n 0 0 ≡ Extend t a n) t refl refl g
-of-words (Ite c t e) g = refl
-of-words (Select a j s k) g = refl
-of-words (Call f w s k) g = refl
-of-words Unknown g = refl
-
--- two rows that are one have one node
-same-words : (r s : List ℕ) → rowEq r s ≡ true → nodeOf r ≡ nodeOf s
-same-words r s e =
-    let (a, f) = both _ _ e in
-    let (b, g) = both _ _ f in
-    let (c, h) = both _ _ g in
-    let (d, k) = both _ _ h in
-    rw (
-      eqb-true (getD r 0 0) (getD s 0 0) a,
-      eqb-true (getD r 1 0) (getD s 1 0) b,
-      eqb-true (getD r 2 0) (getD s 2 0) c,
-      eqb-true (getD r 3 0) (getD s 3 0) d,
-      eqb-true (getD r 4 0) (getD s 4 0) k,
-    )
-
--- a row that is a node
-pub row-is : (r : List ℕ) (node : Node) → TagGood node → rowIs r node ≡ true → nodeOf r ≡ node
-unfolding rowIs
-row-is r node g e = same-words r (rowOf node) e ∙ of-words node g
 
 -- a good tag stays one where the operands are mapped
 pub map-good : (map : List ℕ) (node : Node) → TagGood node → TagGood (mapNode map node)
@@ -85,12 +51,6 @@ same-const b c r q e =
 
 -- rows of a target, by their number
 module _ (target : List ℕ) where
-  pub eq-row : (a b r : ℕ) → isEq target a b r ≡ true → (r < rowCount Target target) × (nodeOf (rowAt Target target r) ≡ Bin tEq a b)
-  unfolding isEq
-  eq-row a b r e =
-      let (x, (y, _)) = all-true _ e in
-      (ltb-true _ _ x, row-is (rowAt Target target r) (Bin tEq a b) (node-two tEq (λ a b c d. refl)) y)
-
   -- one level of a walk: the rest is the row's third field
   pub ite-row : (a b v r : ℕ) → isLevel target a b v r ≡ true
       → (r < rowCount Target target) × (nodeOf (rowAt Target target r) ≡ Ite (fieldAt target r 1) v (fieldAt target r 3)) × (isEq target a b (fieldAt target r 1) ≡ true)

@@ -30,9 +30,10 @@ use Rattle.lowering.specs.Tables.{readIndex, argCount, callArg}
 use Rattle.lowering.specs.Matching.{isLevel, walk}
 use Rattle.lowering.specs.Lowering.{Lowering, sourceRows, targetRows}
 use Rattle.lowering.specs.Check.{widthsOfSource}
+use Rattle.lowering.proofs.Images.{eq-row}
 use Rattle.soundness.proofs.Facts.{S, T, m, Mapped, Formed, SameCore, Ends, walkOf, Found, Owner, by-var, by-read, by-call, Owns, Matched}
 use Rattle.soundness.specs.Passed.{Passed}
-use Rattle.soundness.proofs.Images.{eq-row, ite-row}
+use Rattle.soundness.proofs.Images.{ite-row}
 use Rattle.meaning.proofs.Values.{Pairs, pairs-formed}
 use Rattle.soundness.proofs.Classes.{usedEnd, usedAt, used, Uses, Used}
 use Rattle.soundness.proofs.Owners.{SentBefore, Behind, use-behind, live}

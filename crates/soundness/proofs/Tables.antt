@@ -22,9 +22,10 @@ use Rattle.lowering.specs.Tables.{readCount, readVar, readArray, readIndex, cal
 use Rattle.lowering.specs.Lowering.{Lowering, targetRows}
 use Rattle.lowering.specs.Check.{widthsOfTarget, noClasses, classesOfReads, classesOfTables, offsets}
 use Rattle.lowering.proofs.Marks.{marks-length}
+use Rattle.lowering.proofs.Images.{row-is}
 use Rattle.soundness.proofs.Facts.{T}
 use Rattle.soundness.specs.Passed.{Reached}
-use Rattle.soundness.proofs.Images.{row-is, var-row}
+use Rattle.soundness.proofs.Images.{var-row}
 use Rattle.soundness.proofs.Marks.{table-at, table-stay, table-from}
 
 -- a target row is the variable of some entry

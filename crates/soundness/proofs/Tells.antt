@@ -25,9 +25,10 @@ use Rattle.lowering.specs.Matching.{isEq}
 use Rattle.lowering.specs.Roots.{allEqual, congruent}
 use Rattle.lowering.specs.Lowering.{Lowering, targetRows}
 use Rattle.lowering.specs.Check.{widthsOfTarget}
+use Rattle.lowering.proofs.Images.{eq-row}
 use Rattle.soundness.specs.Sound.{valueOfTarget}
 use Rattle.soundness.proofs.Facts.{T, Formed}
-use Rattle.soundness.proofs.Images.{eq-row, and-row, or-row, not-row}
+use Rattle.soundness.proofs.Images.{and-row, or-row, not-row}
 use Rattle.meaning.proofs.Values.{target-value}
 
 -- the number n is 1 where P holds and 0 where it does not

@@ -41,15 +41,15 @@ module _ (tr : List ℕ) (test : ℕ → Pair → Bool) (from : ℕ) (ps : List 
         (omega arith, next-is ∙ ap (λ (z : ℕ). from + z) k)
 
 -- the steps of the code on plain lists: what each call has answered
-module _ (E : Entries) (T : TargetGraph) (map er tr : List ℕ) (lead : ℕ) (leading : lead ≡ badLead map er tr) where
+module _ (E : Entries) (T : TargetGraph) (ws map er tr : List ℕ) (lead : ℕ) (leading : lead ≡ badLead map er tr) where
   abbrev ps : List Pair
   ps = readPairs (E .reads) (T .rows) (T .bits)
 
   abbrev qs : List Pair
-  qs = callPairs (E .calls)
+  qs = callPairs (E .calls) (E .cargs) ws
 
   abbrev answer : Answer
-  answer = firstRefusal (rootAnswers E T map er tr)
+  answer = firstRefusal (rootAnswers E T ws map er tr)
 
   pub lead-12 : lead < length er → RootMismatch lead ≡ answer
   unfolding firstRefusal

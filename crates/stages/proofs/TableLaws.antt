@@ -15,8 +15,8 @@ use Rattle.lowering.specs.Check.{firstRefusal, tableAnswers}
 pub all-reads : (reads t ws cls : List ℕ) → readCount reads ≤ badRead reads t ws cls → badRead reads t ws cls ≡ readCount reads
 all-reads reads t ws cls h = first-all (λ k. not (readGood reads t ws (readClasses reads cls k) k)) (readCount reads) h
 
-pub all-calls : (calls cargs t cls : List ℕ) → callCount calls ≤ badCall calls cargs t cls → badCall calls cargs t cls ≡ callCount calls
-all-calls calls cargs t cls h = first-all (λ k. not (callGood calls cargs t (callClasses calls cls k) k)) (callCount calls) h
+pub all-calls : (calls cargs t ws cls : List ℕ) → callCount calls ≤ badCall calls cargs t ws cls → badCall calls cargs t ws cls ≡ callCount calls
+all-calls calls cargs t ws cls h = first-all (λ k. not (callGood calls cargs t ws (callClasses calls cls k) k)) (callCount calls) h
 
 module _ (E : Entries) (t ws cls : List ℕ) where
   abbrev answer : Answer
@@ -30,10 +30,10 @@ module _ (E : Entries) (t ws cls : List ℕ) where
   read-5 h = rw (lt-ltb _ _ h)
 
   module _ (a : readCount (E .reads) ≤ badRead (E .reads) t ws cls) where
-    pub call-6 : badCall (E .calls) (E .cargs) t after < callCount (E .calls) → answer ≡ CallTable (badCall (E .calls) (E .cargs) t after)
+    pub call-6 : badCall (E .calls) (E .cargs) t ws after < callCount (E .calls) → answer ≡ CallTable (badCall (E .calls) (E .cargs) t ws after)
     unfolding firstRefusal
     call-6 h = rw (le-ltb _ _ a, lt-ltb _ _ h)
 
-    pub tables-good : callCount (E .calls) ≤ badCall (E .calls) (E .cargs) t after → answer ≡ Accepted
+    pub tables-good : callCount (E .calls) ≤ badCall (E .calls) (E .cargs) t ws after → answer ≡ Accepted
     unfolding firstRefusal
     tables-good b = rw (le-ltb _ _ a, le-ltb _ _ b)

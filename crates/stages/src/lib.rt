@@ -10,7 +10,7 @@ ghost use Rattle.lowering.specs.Lowering.{targetGraph, entries};
 ghost use Rattle.lowering.specs.Check.{firstRefusal, tableAnswers, rootAnswers};
 ghost use Rattle.images.specs.Bits.{ConstsWithin};
 ghost use Rattle.pairs.specs.Walk.{ReadsIn};
-ghost use Rattle.congruence.specs.Calls.{CallsIn};
+ghost use Rattle.congruence.specs.Calls.{CallsIn, EqsEven};
 use answers::Answer;
 
 // 5 and 6; where both tables pass, each entry has marked its variable's class and offset.
@@ -38,7 +38,7 @@ pub fn entries(
     if r < tables::read_count(reads) as u64 {
         return Answer::ReadTable(r);
     }
-    let c = tables::call_entries(calls, cargs, target, cls, ent);
+    let c = tables::call_entries(calls, cargs, target, ws, cls, ent);
     if c < tables::call_count(calls) as u64 {
         return Answer::CallTable(c);
     }
@@ -54,13 +54,15 @@ pub fn roots(
     cargs: &[u64],
     target: &[u64],
     tbits: &[u8],
+    ws: &[u64],
     troots: &[u64],
 ) -> Answer
     requires { ⌜ ReadsIn (now reads) (now target) ⌝ }
     requires { ⌜ CallsIn (now calls) (now cargs) ⌝ }
+    requires { ⌜ EqsEven (now target) (now ws) ⌝ }
     requires { ⌜ ConstsWithin Graph.Target (now tbits) (now target) ⌝ }
     ensures answer { λ r. ⌜ r ≡ firstRefusal (rootAnswers (entries (now (reads .entry)) (now (calls .entry)) (now (cargs .entry)))
-        (targetGraph (now (target .entry)) (now (tbits .entry))) (now (map .entry)) (now (eroots .entry)) (now (troots .entry))) ⌝ }
+        (targetGraph (now (target .entry)) (now (tbits .entry))) (now (ws .entry)) (now (map .entry)) (now (eroots .entry)) (now (troots .entry))) ⌝ }
 {
     let lead = leads::ext_roots_corr(eroots, map, troots);
     if lead < eroots.len() {
@@ -70,7 +72,7 @@ pub fn roots(
     if !a.ok {
         return Answer::CongruenceMismatch(a.next as u64);
     }
-    let u = congruence::uf_cong(calls, cargs, target, troots, a.next);
+    let u = congruence::uf_cong(calls, cargs, target, ws, troots, a.next);
     if !u.ok {
         return Answer::CongruenceMismatch(u.next as u64);
     }

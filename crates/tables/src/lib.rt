@@ -67,17 +67,17 @@ pub fn call_entries(
     calls: &[u64],
     cargs: &[u64],
     target: &[u64],
+    ws: &[u64],
     cls: &mut [u64],
     ent: &mut [u64],
 ) -> u64
     requires { ⌜ length (now cls) ≡ rowCount Graph.Target (now target) ⌝ }
     requires { ⌜ length (now ent) ≡ rowCount Graph.Target (now target) ⌝ }
-    ensures entry { λ r. ⌜ r ≡ badCall (now (calls .entry)) (now (cargs .entry)) (now (target .entry)) (now (cls .entry)) ⌝ }
+    ensures entry { λ r. ⌜ r ≡ badCall (now (calls .entry)) (now (cargs .entry)) (now (target .entry)) (now (ws .entry)) (now (cls .entry)) ⌝ }
     ensures classes { λ r. ⌜ now (cls .exit) ≡ callClasses (now (calls .entry)) (now (cls .entry)) r ⌝ }
     ensures offsets { λ r. ⌜ now (ent .exit) ≡ callOffsets (now (calls .entry)) (now (ent .entry)) r ⌝ }
 {
-    let none = &calls[0..0];
-    table_entries(Table::Calls, 4, 3, calls, cargs, target, none, cls, ent)
+    table_entries(Table::Calls, 4, 3, calls, cargs, target, ws, cls, ent)
 }
 
 // How many entries each table has; a cut one counts.

@@ -11,11 +11,11 @@ use Rattle.congruence.proofs.uf_cong.Statement.{statement}
 use Rattle.congruence.proofs.uf_cong.Tie as tie
 
 abbrev Inv-loop : tie.InvT-loop
-Inv-loop calls cargs target troots idx0 n idx₀ k₀ idx k =
-    (k ≤ n) × TableKept troots (callRoot calls cargs target) (sameFunction calls) (callCount calls) idx0 idx k
+Inv-loop calls cargs target ws troots idx0 n idx₀ k₀ idx k =
+    (k ≤ n) × TableKept troots (callRoot calls cargs target) (sameFunction calls cargs ws) (callCount calls) idx0 idx k
 
 abbrev μ-loop : tie.MeasureT-loop
-μ-loop calls cargs target troots idx0 n idx₀ k₀ idx k = n - k
+μ-loop calls cargs target ws troots idx0 n idx₀ k₀ idx k = n - k
 
 call-count-requires : tie.Need-call-count-requires Inv-loop μ-loop
 call-count-requires c κs = search needs
@@ -24,7 +24,9 @@ loop-holds : tie.Need-loop-holds Inv-loop μ-loop
 loop-holds c = (omega arith, record { kept = rw sub-zero })
 
 uf-cong-for-requires : tie.Need-uf-cong-for-requires Inv-loop μ-loop
-uf-cong-for-requires c κs = (c .before .before .before .before .before .before .before .pre, rw (c .before .before .call-count .ensures) at (c .loop-test .taken))
+uf-cong-for-requires c κs =
+    let pre = c .before .before .before .before .before .before .before .before .pre in
+    (pre .0, (pre .1, rw (c .before .before .call-count .ensures) at (c .loop-test .taken)))
 
 returns : tie.Need-returns Inv-loop μ-loop
 returns c =

@@ -6,73 +6,73 @@ use native.Mathlib.Omega.{arith}
 use borrow.Author.Needs.{needs}
 use borrow.Author.Tests.{not-true, not-false}
 use lib.ListN.{length}
-use Rattle.lowering.specs.Tables.{callCount, callStart, argCount, sameFunction}
+use Rattle.lowering.specs.Tables.{callCount, callFunction, callStart, argCount, sameFunction}
 use Rattle.lowering.specs.Roots.{pair, callRoot, rootAt}
-use Rattle.keys.proofs.Keys.{function-at}
+use Rattle.keys.proofs.Keys.{same-function-at, other-function, one-count}
 use Rattle.pairs.proofs.Walk.{RowKept, row-end, row-skip, row-on, row-stop, root-inside}
-use Rattle.congruence.proofs.Inside.{same-count}
+use Rattle.congruence.proofs.Even.{one-function}
 use Rattle.congruence.proofs.uf_cong_for.Statement.{statement}
 use Rattle.congruence.proofs.uf_cong_for.Tie as tie
 
 abbrev Inv-loop : tie.InvT-loop
-Inv-loop calls cargs target troots k idx0 n at vp fid sp count idx₀ l₀ idx l =
-    (l ≤ n) × RowKept troots (callRoot calls cargs target) (sameFunction calls) (callCount calls) k idx0 idx l
+Inv-loop calls cargs target ws troots k idx0 n at vp fid sp count idx₀ l₀ idx l =
+    (l ≤ n) × RowKept troots (callRoot calls cargs target) (sameFunction calls cargs ws) (callCount calls) k idx0 idx l
 
 abbrev μ-loop : tie.MeasureT-loop
-μ-loop calls cargs target troots k idx0 n at vp fid sp count idx₀ l₀ idx l = n - l
+μ-loop calls cargs target ws troots k idx0 n at vp fid sp count idx₀ l₀ idx l = n - l
 
 -- places, seen from the loop: the start, and after the count
 abbrev start : tie.At-loop Inv-loop μ-loop → tie.Start Inv-loop μ-loop
-start a = a .before .before .before .before .before .before .before .before .before .before
+start a = a .before .before .before .before .before .before .before .before .before .before .before
 
 abbrev counted : tie.At-loop Inv-loop μ-loop → tie.After-call-count Inv-loop μ-loop
 counted a = a .before .before .before .before .before
 
 -- entry k is whole
 whole : (p : tie.Start Inv-loop μ-loop) → p .args .k * 4 + 4 ≤ length (p .args .calls .now)
-whole p = p .pre .0 _ (p .pre .1) .0
+whole p = p .pre .0 _ (p .pre .1 .1) .0
 
 call-count-requires : tie.Need-call-count-requires Inv-loop μ-loop
 call-count-requires c κs = search needs
 
 mul-at : tie.Need-mul-at Inv-loop μ-loop
-mul-at c = omega (arith, whole (c .before .before .before .before .before))
+mul-at c = omega (arith, whole (c .before .before .before .before .before .before))
 
 mul-vp : tie.Need-mul-vp Inv-loop μ-loop
-mul-vp c = omega (arith, whole (c .before .before .before .before .before))
+mul-vp c = omega (arith, whole (c .before .before .before .before .before .before))
 
 shared-slice-read-vp : tie.Need-shared-slice-read-vp Inv-loop μ-loop
-shared-slice-read-vp c = omega (arith, whole (c .before .before .before .before .before .before))
+shared-slice-read-vp c = omega (arith, whole (c .before .before .before .before .before .before .before))
 
 add-fid : tie.Need-add-fid Inv-loop μ-loop
-add-fid c = omega (arith, whole (c .before .before .before .before .before .before))
+add-fid c = omega (arith, whole (c .before .before .before .before .before .before .before))
 
 mul-fid : tie.Need-mul-fid Inv-loop μ-loop
-mul-fid c = omega (arith, whole (c .before .before .before .before .before .before))
+mul-fid c = omega (arith, whole (c .before .before .before .before .before .before .before))
 
 shared-slice-read-fid : tie.Need-shared-slice-read-fid Inv-loop μ-loop
-shared-slice-read-fid c = omega (arith, whole (c .before .before .before .before .before .before .before))
+shared-slice-read-fid c = omega (arith, whole (c .before .before .before .before .before .before .before .before))
 
 add-sp : tie.Need-add-sp Inv-loop μ-loop
-add-sp c = omega (arith, whole (c .before .before .before .before .before .before .before))
+add-sp c = omega (arith, whole (c .before .before .before .before .before .before .before .before))
 
 mul-sp : tie.Need-mul-sp Inv-loop μ-loop
-mul-sp c = omega (arith, whole (c .before .before .before .before .before .before .before))
+mul-sp c = omega (arith, whole (c .before .before .before .before .before .before .before .before))
 
 shared-slice-read-sp : tie.Need-shared-slice-read-sp Inv-loop μ-loop
-shared-slice-read-sp c = omega (arith, whole (c .before .before .before .before .before .before .before .before))
+shared-slice-read-sp c = omega (arith, whole (c .before .before .before .before .before .before .before .before .before))
 
 add-count : tie.Need-add-count Inv-loop μ-loop
-add-count c = omega (arith, whole (c .before .before .before .before .before .before .before .before))
+add-count c = omega (arith, whole (c .before .before .before .before .before .before .before .before .before))
 
 mul-count : tie.Need-mul-count Inv-loop μ-loop
-mul-count c = omega (arith, whole (c .before .before .before .before .before .before .before .before))
+mul-count c = omega (arith, whole (c .before .before .before .before .before .before .before .before .before))
 
 shared-slice-read-count : tie.Need-shared-slice-read-count Inv-loop μ-loop
-shared-slice-read-count c = omega (arith, whole (c .before .before .before .before .before .before .before .before .before))
+shared-slice-read-count c = omega (arith, whole (c .before .before .before .before .before .before .before .before .before .before))
 
 add-l : tie.Need-add-l Inv-loop μ-loop
-add-l c = omega (arith, whole (c .before .before .before .before .before .before .before .before .before))
+add-l c = omega (arith, whole (c .before .before .before .before .before .before .before .before .before .before))
 
 loop-holds : tie.Need-loop-holds Inv-loop μ-loop
 loop-holds c = (omega (arith, c .before .before .before .before .call-count .ensures), record { kept = refl })
@@ -91,13 +91,24 @@ function-is-requires : tie.Need-function-is-requires Inv-loop μ-loop
 function-is-requires c κs = entry c .0
 
 -- what the calls test
-needs-is : (c : tie.After-function-is Inv-loop μ-loop)
-    → let a = c .before .before in
+told : (c : tie.Then1 Inv-loop μ-loop)
+    → let a = c .before .before .before in
     let s = start a .args in
-    c .function-is .result ≡ sameFunction (s .calls .now) (s .k) (a .loop .l)
+    (callFunction (s .calls .now) (s .k) ≡ callFunction (s .calls .now) (a .loop .l))
+    × (argCount (s .calls .now) (s .k) ≡ argCount (s .calls .now) (a .loop .l))
+told c =
+    let a = c .before .before .before in
+    let s = start a .args in
+    one-count (s .calls .now) (s .cargs .now) (s .ws .now) (s .k) (a .loop .l) (sym (c .before .function-is .ensures) ∙ c .if1 .taken)
+
+needs-is : (c : tie.After-same-function Inv-loop μ-loop)
+    → let a = c .before .before .before .before .before .before .before .before in
+    let s = start a .args in
+    c .same-function .result ≡ sameFunction (s .calls .now) (s .cargs .now) (s .ws .now) (s .k) (a .loop .l)
 needs-is c =
-    let a = c .before .before in
-    c .function-is .ensures ∙ function-at (start a .args .calls .now) (start a .args .k) (a .loop .l)
+    let a = c .before .before .before .before .before .before .before .before in
+    let s = start a .args in
+    c .same-function .ensures ∙ same-function-at (s .calls .now) (s .cargs .now) (s .ws .now) _ _ (s .k) (a .loop .l) refl refl
 
 stands-is : (c : tie.After-call-stands Inv-loop μ-loop)
     → let a = c .before .before .before .before .before .before in
@@ -125,19 +136,25 @@ call-stands-requires : tie.Need-call-stands-requires Inv-loop μ-loop
 call-stands-requires c κs =
     let in-loop = c .before .before .before .before in
     let p = start (in-loop .before) in
-    let s = p .args in
-    let l = in-loop .before .loop .l in
-    let e = same-count (s .calls .now) (s .k) l (sym (needs-is (c .before .before .before)) ∙ c .before .before .if1 .taken) in
-    (p .pre .0 _ (p .pre .1) .1, rw e (entry in-loop .1))
+    let e = told (c .before .before) .1 in
+    (p .pre .0 _ (p .pre .1 .1) .1, rw e (entry in-loop .1))
+
+add-idx : tie.Need-add-idx Inv-loop μ-loop
+add-idx c = omega (arith, root-inside _ _ _ _ (sym (stands-is (c .before)) ∙ c .if2 .taken))
+
+same-function-requires : tie.Need-same-function-requires Inv-loop μ-loop
+same-function-requires c κs =
+    let in-loop = c .before .before .before .before .before .before in
+    let p = start (in-loop .before) in
+    ((whole p, entry in-loop .0), (p .pre .0 _ (p .pre .1 .1) .1, entry in-loop .1))
 
 returns : tie.Need-returns Inv-loop μ-loop
 returns c =
-    let in-loop = c .before .before .before .before .before .before in
+    let in-loop = c .before .before .before .before .before .before .before .before in
     let at-loop = in-loop .before in
-    row-stop (at-loop .loop .inv .1) (rw (counted at-loop .call-count .ensures) at (in-loop .loop-test .taken)) (sym (needs-is (c .before .before .before .before .before)) ∙ c .before .before .before .before .if1 .taken) (sym (stands-is (c .before)) ∙ not-true _ (c .if2 .taken))
-
-add-idx : tie.Need-add-idx Inv-loop μ-loop
-add-idx c = omega (arith, root-inside _ _ _ _ (sym (stands-is (c .before)) ∙ not-false _ (c .if2 .left)))
+    row-stop (at-loop .loop .inv .1) (rw (counted at-loop .call-count .ensures) at (in-loop .loop-test .taken))
+    (sym (needs-is (c .before)) ∙ c .if3 .taken)
+    (sym (stands-is (c .before .before .before)) ∙ c .before .before .if2 .left)
 
 add-l-2 : tie.Need-add-l-2 Inv-loop μ-loop
 add-l-2 c = omega arith
@@ -149,12 +166,18 @@ loop-again : tie.Need-loop-again Inv-loop μ-loop
 unfolding rootAt
 loop-again c =
     let at-loop = c .before .before .before in
+    let s = start at-loop .args in
     let l = at-loop .loop in
     let h = rw (counted at-loop .call-count .ensures) at (c .before .before .loop-test .taken) in (
       omega arith,
       ⊎-elim
-          (λ w. rw (w .5) (row-on (l .inv .1) h (sym (needs-is (c .before)) ∙ w .0 .taken) (sym (w .3 .ensures) ∙ not-false _ (w .4 .left))))
-          (λ w. rw (w .1) (row-skip (l .inv .1) h (sym (needs-is (c .before)) ∙ w .0 .left)))
+          (λ w.
+              let stands = sym (w .3 .ensures) ∙ w .4 .taken in
+              let (f, n) = told record { before = c .before; if1 = w .0 } in
+              rw (w .5) (row-on (l .inv .1) h (one-function (s .target .now) (s .ws .now) (start at-loop .pre .1 .0) (s .calls .now) (s .cargs .now) (s .troots .now) (s .k) (l .l) (l .idx) f n stands) stands))
+          (⊎-elim
+              (λ w. rw (w .7) (row-skip (l .inv .1) h (sym (same-function-at (s .calls .now) (s .cargs .now) (s .ws .now) _ _ (s .k) (l .l) refl refl) ∙ sym (w .5 .ensures) ∙ w .6 .left)))
+              (λ w. rw (w .1) (row-skip (l .inv .1) h (other-function (s .calls .now) (s .cargs .now) (s .ws .now) (s .k) (l .l) (sym (c .before .function-is .ensures) ∙ w .0 .left)))))
           (c .if1 .came),
     )
 
@@ -190,8 +213,9 @@ uf-cong-for-spec =
     mul-call-stands
     shared-slice-read-call-stands
     call-stands-requires
-    returns
     add-idx
+    same-function-requires
+    returns
     add-l-2
     loop-less
     loop-again

@@ -38,7 +38,7 @@ returns c = fails _ (sym (c .before .args-in-range .ensures) ∙ not-true _ (c .
 
 call-dup-requires : tie.Need-call-dup-requires
 call-dup-requires c κs =
-    let p = c .before .before .before .before .before .before .pre in
+    let p = c .before .before .before .before .before .before .before .pre in
     let (a, _) = all-true _ (sym (c .before .args-in-range .ensures) ∙ not-false _ (c .if1 .left)) in
     (p .0, below-more _ _ (p .1) (leb-true _ _ a))
 

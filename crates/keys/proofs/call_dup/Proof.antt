@@ -11,10 +11,10 @@ use Rattle.keys.proofs.call_dup.Statement.{statement}
 use Rattle.keys.proofs.call_dup.Tie as tie
 
 abbrev Inv-loop : tie.InvT-loop
-Inv-loop calls cargs k upto f s n off₀ off = Searched (λ l. sameCall calls cargs l k) 4 k off
+Inv-loop calls cargs ws k upto f s n off₀ off = Searched (λ l. sameCall calls cargs ws l k) 4 k off
 
 abbrev μ-loop : tie.MeasureT-loop
-μ-loop calls cargs k upto f s n off₀ off = k * 4 - off
+μ-loop calls cargs ws k upto f s n off₀ off = k * 4 - off
 
 mul-upto : tie.Need-mul-upto Inv-loop μ-loop
 mul-upto c = search needs
@@ -49,32 +49,33 @@ shared-slice-read-n c = search needs
 loop-holds : tie.Need-loop-holds Inv-loop μ-loop
 loop-holds c = searched-none _ _ _
 
-call-is-requires : tie.Need-call-is-requires Inv-loop μ-loop
-call-is-requires c κs =
-    let p = c .before .before .before .before .before .before in
+call-again-requires : tie.Need-call-again-requires Inv-loop μ-loop
+call-again-requires c κs =
+    let p = c .before .before .before .before .before .before .before in
     let i = c .loop .inv in
     let h : i .0 < p .args .k + 1 = omega (arith, i .2) in
     let k : p .args .k < p .args .k + 1 = omega arith in
-    (omega (arith, i .1, i .2), rw (i .1) (p .pre .1 (i .0) h), p .pre .1 (p .args .k) k)
+    let own = p .pre .1 (p .args .k) k in
+    ((omega (arith, i .1, i .2), p .pre .0, own), (rw (i .1) (p .pre .1 (i .0) h), own))
 
 abbrev entry : tie.Then1 Inv-loop μ-loop → tie.Start Inv-loop μ-loop
-entry c = c .before .before .before .before .before .before .before .before
+entry c = c .before .before .before .before .before .before .before .before .before
 
 -- what the call tests: the entry at the offset has the key
-test : (c : tie.After-call-is Inv-loop μ-loop)
-    → let s = c .before .before .before .before .before .before .before .args in
-    c .call-is .result ≡ sameCall (s .calls .now) (s .cargs .now) (c .before .loop .inv .0) (s .k)
+test : (c : tie.After-call-again Inv-loop μ-loop)
+    → let s = c .before .before .before .before .before .before .before .before .args in
+    c .call-again .result ≡ sameCall (s .calls .now) (s .cargs .now) (s .ws .now) (c .before .loop .inv .0) (s .k)
 test c =
-    let s = c .before .before .before .before .before .before .before .args in
+    let s = c .before .before .before .before .before .before .before .before .args in
     let l = c .before .loop in
-    c .call-is .ensures ∙ same-call-at (s .calls .now) (s .cargs .now) (l .off) (l .inv .0) (s .k) (l .inv .1)
+    c .call-again .ensures ∙ same-call-at (s .calls .now) (s .cargs .now) (s .ws .now) (l .off) (l .inv .0) (s .k) (l .inv .1)
 
 -- where it has not, a whole entry follows
 more : (c : tie.Then1 Inv-loop μ-loop) → c .before .before .loop .off + 4 ≤ entry c .args .k * 4
 more c =
     let s = entry c .args in
     let l = c .before .before .loop in
-    goes-on (λ i. sameCall (s .calls .now) (s .cargs .now) i (s .k)) 4 (s .k) (call-self (s .calls .now) (s .cargs .now) (s .k)) (l .off) (l .inv) (sym (test (c .before)) ∙ not-true _ (c .if1 .taken))
+    goes-on (λ i. sameCall (s .calls .now) (s .cargs .now) (s .ws .now) i (s .k)) 4 (s .k) (call-self (s .calls .now) (s .cargs .now) (s .ws .now) (s .k)) (l .off) (l .inv) (sym (test (c .before)) ∙ not-true _ (c .if1 .taken))
 
 add-off : tie.Need-add-off Inv-loop μ-loop
 add-off c = omega (arith, more c)
@@ -86,13 +87,13 @@ loop-again : tie.Need-loop-again Inv-loop μ-loop
 loop-again c =
     let s = entry c .args in
     let l = c .before .before .loop in
-    searched-more (λ i. sameCall (s .calls .now) (s .cargs .now) i (s .k)) 4 (s .k) (call-self (s .calls .now) (s .cargs .now) (s .k)) (l .off) (l .inv) (sym (test (c .before)) ∙ not-true _ (c .if1 .taken))
+    searched-more (λ i. sameCall (s .calls .now) (s .cargs .now) (s .ws .now) i (s .k)) 4 (s .k) (call-self (s .calls .now) (s .cargs .now) (s .ws .now) (s .k)) (l .off) (l .inv) (sym (test (c .before)) ∙ not-true _ (c .if1 .taken))
 
 returns : tie.Need-returns Inv-loop μ-loop
 returns c =
-    let s = c .before .before .before .before .before .before .before .before .args in
+    let s = c .before .before .before .before .before .before .before .before .before .args in
     let l = c .before .before .loop in
-    found (λ i. sameCall (s .calls .now) (s .cargs .now) i (s .k)) 4 (s .k) (call-self (s .calls .now) (s .cargs .now) (s .k)) (l .off) (l .inv) (omega arith) (sym (test (c .before)) ∙ not-false _ (c .if1 .left))
+    found (λ i. sameCall (s .calls .now) (s .cargs .now) (s .ws .now) i (s .k)) 4 (s .k) (call-self (s .calls .now) (s .cargs .now) (s .ws .now) (s .k)) (l .off) (l .inv) (omega arith) (sym (test (c .before)) ∙ not-false _ (c .if1 .left))
 
 pub call-dup-spec : {M : Type 1} → statement M
 call-dup-spec =
@@ -111,7 +112,7 @@ call-dup-spec =
     mul-n
     shared-slice-read-n
     loop-holds
-    call-is-requires
+    call-again-requires
     add-off
     loop-less
     loop-again

@@ -6,6 +6,7 @@ use lib.ListN.{length, length-replicate}
 use mathlib.Core.List.{[]}
 use borrow.Author.Tests.{not-true, not-false}
 use Rattle.images.proofs.Constants.{bits-within}
+use Rattle.images.proofs.Equality.{eqs-even}
 use Rattle.lists.proofs.Choice.{no-way}
 use Rattle.rows.specs.declared.Graph.the-variants.{Target}
 use Rattle.answers.specs.Answer.{isAccepted}
@@ -133,7 +134,16 @@ roots-requires c κs =
     let p = at-start .pre in
     let L = input at-start in
     let b = passed-tables L _ _ _ (p .1 .0) (p .1 .1 .0) (p .1 .1 .1) _ _ _ (at-entries .entries .ensures .0) (at-entries .entries .ensures .1 .0) (at-entries .entries .ensures .1 .1) (map-fits at-entries) (tables-accepted at-else2) in
-    (reads-inside L b, (calls-inside L b, bits-within Target (s .tbits .now) [] (s .target .now) (widths Target (length (s .tbits .now)) [] (s .target .now)) (p .0 .target-formed)))
+    let ws = widths Target (length (s .tbits .now)) [] (s .target .now) in (
+      reads-inside L b,
+      (
+        calls-inside L b,
+        (
+          rw (p .1 .0) (eqs-even (length (s .tbits .now)) (s .target .now) ws (p .0 .target-formed)),
+          bits-within Target (s .tbits .now) [] (s .target .now) ws (p .0 .target-formed),
+        ),
+      ),
+    )
 
 same-length-7 : tie.Need-same-length-7
 same-length-7 c = search needs

@@ -81,7 +81,7 @@ returns-3 c =
     let k = at-call-entries .call-entries .ensures in
     let bad = rw marked at (k .0) in
     let b = rw (bad, c .before .call-count .ensures) at (c .if2 .left) in
-    let every = bad ∙ all-calls (s .calls .now) (s .cargs .now) (s .target .now) _ b in
+    let every = bad ∙ all-calls (s .calls .now) (s .cargs .now) (s .target .now) (s .ws .now) _ b in
     (sym (tables-good (entries (s .reads .now) (s .calls .now) (s .cargs .now)) (s .target .now) (s .ws .now) (s .cls .now) a b), (λ h. k .1 .0 ∙ rw (marked, every), λ h. k .1 .1 ∙ rw (offs, every)))
 
 pub entries-spec : {M : Type 1} → statement M
