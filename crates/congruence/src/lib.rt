@@ -114,7 +114,14 @@ fn uf_cong_for(
 }
 
 // All pairs of calls of one function.
-pub fn uf_cong(calls: &[u64], cargs: &[u64], target: &[u64], ws: &[u64], troots: &[u64], idx0: usize) -> Cong
+pub fn uf_cong(
+    calls: &[u64],
+    cargs: &[u64],
+    target: &[u64],
+    ws: &[u64],
+    troots: &[u64],
+    idx0: usize,
+) -> Cong
     requires { ⌜ CallsIn (now calls) (now cargs) ⌝ }
     requires { ⌜ EqsEven (now target) (now ws) ⌝ }
     ensures walk { λ r. ⌜ r ≡ walked (now (troots .entry)) (callRoot (now (calls .entry)) (now (cargs .entry)) (now (target .entry))) idx0

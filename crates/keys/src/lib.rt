@@ -113,11 +113,26 @@ pub fn same_function(calls: &[u64], cargs: &[u64], ws: &[u64], p: usize, q: usiz
     if w != width_at(ws, calls[q]) {
         return false;
     }
-    arg_widths_eq(cargs, ws, calls[p + 2] as usize, calls[q + 2] as usize, n as usize)
+    arg_widths_eq(
+        cargs,
+        ws,
+        calls[p + 2] as usize,
+        calls[q + 2] as usize,
+        n as usize,
+    )
 }
 
 // The call entry at off has the key of the one at q, which is of function number f with n arguments from s on. Rows first: rarely do these agree.
-fn call_again(calls: &[u64], cargs: &[u64], ws: &[u64], off: usize, q: usize, f: u64, s: u64, n: u64) -> bool
+fn call_again(
+    calls: &[u64],
+    cargs: &[u64],
+    ws: &[u64],
+    off: usize,
+    q: usize,
+    f: u64,
+    s: u64,
+    n: u64,
+) -> bool
     requires { ⌜ (off + 4 ≤ length (now calls)) × (q + 4 ≤ length (now calls)) × (s + n ≤ length (now cargs)) ⌝ }
     requires { ⌜ ArgsAt (now calls) (now cargs) off × ArgsAt (now calls) (now cargs) q ⌝ }
     ensures test { λ b. ⌜ b ≡ all (callIs (now (calls .entry)) (now (cargs .entry)) off f s n

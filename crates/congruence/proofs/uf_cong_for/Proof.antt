@@ -172,12 +172,12 @@ loop-again c =
       omega arith,
       ⊎-elim
           (λ w.
-              let stands = sym (w .3 .ensures) ∙ w .4 .taken in
-              let (f, n) = told record { before = c .before; if1 = w .0 } in
-              rw (w .5) (row-on (l .inv .1) h (one-function (s .target .now) (s .ws .now) (start at-loop .pre .1 .0) (s .calls .now) (s .cargs .now) (s .troots .now) (s .k) (l .l) (l .idx) f n stands) stands))
+          let stands = sym (w .3 .ensures) ∙ w .4 .taken in
+          let (f, n) = told record { before = c .before; if1 = w .0 } in
+          rw (w .5) (row-on (l .inv .1) h (one-function (s .target .now) (s .ws .now) (start at-loop .pre .1 .0) (s .calls .now) (s .cargs .now) (s .troots .now) (s .k) (l .l) (l .idx) f n stands) stands))
           (⊎-elim
-              (λ w. rw (w .7) (row-skip (l .inv .1) h (sym (same-function-at (s .calls .now) (s .cargs .now) (s .ws .now) _ _ (s .k) (l .l) refl refl) ∙ sym (w .5 .ensures) ∙ w .6 .left)))
-              (λ w. rw (w .1) (row-skip (l .inv .1) h (other-function (s .calls .now) (s .cargs .now) (s .ws .now) (s .k) (l .l) (sym (c .before .function-is .ensures) ∙ w .0 .left)))))
+          (λ w. rw (w .7) (row-skip (l .inv .1) h (sym (same-function-at (s .calls .now) (s .cargs .now) (s .ws .now) _ _ (s .k) (l .l) refl refl) ∙ sym (w .5 .ensures) ∙ w .6 .left)))
+          (λ w. rw (w .1) (row-skip (l .inv .1) h (other-function (s .calls .now) (s .cargs .now) (s .ws .now) (s .k) (l .l) (sym (c .before .function-is .ensures) ∙ w .0 .left)))))
           (c .if1 .came),
     )
 
