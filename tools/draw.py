@@ -111,11 +111,18 @@ def table_notes(book):
     notes = {}
     for entry in reads(book):
         notes.setdefault(entry.variable, (
-            "read", f"array {entry.key[0]} at {words_text(entry.key[1])}"))
+            "read", f"array {entry.symbol} at {words_text(entry.rows)}"))
+    functions = {entry.symbol for entry in calls(book)}
     for entry in calls(book):
-        notes.setdefault(entry.variable, (
-            "call", f"function {entry.key[0]} of [{words_text(entry.key[1])}]"))
+        notes.setdefault(entry.variable, ("call", call_note(entry, functions)))
     return notes
+
+
+def call_note(entry, functions):
+    """What is called; its widths too where another function has its number and count."""
+    function, rows = entry.symbol, words_text(entry.rows)
+    widths = " " + function.widths_text() if any(map(function.namesake, functions)) else ""
+    return f"function {function.number} of [{rows}]{widths}"
 
 
 def target_row(book, row, roots, entries):

@@ -5,16 +5,14 @@ worked out here, after the scope's rules, for a reader's help.
 """
 
 from itertools import combinations
-from typing import NamedTuple, Optional
+from typing import NamedTuple, Optional, Union
 
-from graph import CEILING, CORE_TAGS, MAX, TAGS, bits_text, fill, tag_of, word_text, words_text
-from listing import BITS, CALL, CONTENTS, READ, SECTIONS, Book, decode, entry_text, unpack
+from graph import (CEILING, CORE_TAGS, MAX, TAGS, Function, bits_text, counted, fill, shortened,
+                   tag_of, word_text, words_text)
+from listing import (BITS, CALL, CONTENTS, READ, SECTIONS, Book, decode, entry_text, table_entries,
+                     unpack)
 
 LIMIT = 65536  # bytes that verdict reads
-
-
-def counted(count, what):
-    return f"{count} {what}" + ("" if count == 1 else "s")
 
 
 # Rows and entries, a line each
@@ -36,28 +34,32 @@ def image_lines(book, row):
 class Entry(NamedTuple):
     """A whole entry of the read table or the call table."""
 
+    number: int
     line: str
     variable: int
-    key: tuple  # array or function, and the target rows it is applied to
+    symbol: Union[int, Function]  # array, or function with its widths
+    rows: tuple  # target rows: the index, the arguments
     constant: Optional[bytes] = None  # of a read's index
+
+    @property
+    def key(self):
+        return self.symbol, self.rows
 
 
 def table(name, form, words):
     """The entries of a table, each as a line and its words; the last may be cut."""
-    size = form.count("#")
-    cut = [words[at:at + size] for at in range(0, len(words), size)]
     return [(f"{name} entry {k}: {entry_text(form, entry)}", entry)
-            for k, entry in enumerate(cut)]
+            for k, entry in enumerate(table_entries(form, words))]
 
 
 def reads(book):
-    return [Entry(line, words[0], (words[1], words[2:]), book.target.constant(words[2]))
-            for line, words in table("read", READ, book.reads) if len(words) == 3]
+    return [Entry(k, line, words[0], words[1], words[2:], book.target.constant(words[2]))
+            for k, (line, words) in enumerate(table("read", READ, book.reads)) if len(words) == 3]
 
 
 def calls(book):
-    return [Entry(line, words[0], (words[1], book.arguments[words[2]:words[2] + words[3]]))
-            for line, words in table("call", CALL, book.calls) if len(words) == 4]
+    return [Entry(k, line, words[0], *book.call(words))
+            for k, (line, words) in enumerate(table("call", CALL, book.calls)) if len(words) == 4]
 
 
 def owned(entries, variable):
@@ -66,6 +68,54 @@ def owned(entries, variable):
 
 def keyed(entries, key):
     return [entry.line for entry in entries if entry.key == key]
+
+
+# Functions: by number, count and widths
+
+NO_ROOT = "no root is due between two functions"
+
+
+def by_function(entries):
+    """The numbers of call entries by their function, in order."""
+    numbers = {}
+    for entry in entries:
+        numbers.setdefault(entry.symbol, []).append(str(entry.number))
+    return numbers
+
+
+def applied(function, rows):
+    taken = f", with the target rows [{shortened(map(word_text, rows))}]" if rows else ""
+    return function.text() + taken
+
+
+def of_function(function, numbers):
+    """Which call entries are of a function."""
+    verb = "entry {} is" if len(numbers) == 1 else "entries {} are"
+    return f"call {verb.format(shortened(numbers))} of {function.text()}"
+
+
+def namesakes(entries, function, so):
+    """Lines on the entries of functions that differ from one in their widths alone."""
+    return few([f"{of_function(other, numbers)}: other widths, another function, {so}"
+                for other, numbers in by_function(entries).items() if function.namesake(other)])
+
+
+def told_apart(entries):
+    """Lines on the functions that have number and count in common."""
+    alike = {}
+    for entry in entries:
+        alike.setdefault(entry.symbol[:2], []).append(entry)
+    lines = []
+    for group in alike.values():
+        function, numbers = next(iter(by_function(group).items()))
+        others = namesakes(group, function, NO_ROOT)
+        lines += [of_function(function, numbers)] + others if others else []
+    return few(lines)
+
+
+def few(lines, most=7):
+    """So many lines at most."""
+    return lines if len(lines) <= most else lines[:most - 1] + [".. and others"]
 
 
 # Graphs: 15, 16, 17, 1, 2
@@ -169,7 +219,12 @@ def call_table(book, place, detail):
     lines += ["an argument must be a row; " + row_line(book.target, row)
               for row in book.arguments[start:start + count] if row >= len(book.target.rows)]
     lines += ["the same variable: " + line for line in owned(reads(book), variable)]
-    return lines + repeated(calls(book)[:place], calls(book)[place])
+    earlier, entry = calls(book)[:place], calls(book)[place]
+    lines += repeated(earlier, entry)
+    if keyed(earlier, entry.key):
+        lines += ["the key: " + applied(*entry.key)]
+    same_rows = [other for other in earlier if other.rows == entry.rows]
+    return lines + namesakes(same_rows, entry.symbol, "not the same key")
 
 
 def repeated(earlier, entry):
@@ -253,11 +308,16 @@ def call_mismatch(book, place, detail):
     lines, (name, fields) = image_lines(book, place), book.source.node(place)
     if name != "Call":
         return lines
-    function, width, start, count = fields
-    arguments = tuple(map(book.image, book.source.stretch(start, count) or ()))
-    lines += [f"it must be a Var of {bits_text(width)}, the variable of a call of function "
-              f"{function} with the target rows [{words_text(arguments)}]"]
-    return lines + registered(calls(book), book.image(place), (function, arguments))
+    number, width, start, count = fields
+    arguments = book.source.stretch(start, count) or ()
+    images = tuple(map(book.image, arguments))
+    called = book.source.function(number, count, arguments, width)
+    lines += [f"it must be a Var of {bits_text(width)}, the variable of a call of "
+              + applied(called, images)]
+    meant, image = book.target.function(number, count, images, width), book.image(place)
+    found = [entry for entry in calls(book) if entry.variable == image]
+    return (lines + registered(calls(book), image, (meant, images))
+            + namesakes(found, meant, "not the one that is called"))
 
 
 def registered(entries, variable, key):
@@ -273,16 +333,15 @@ def due(book):
     """The pairs of entries that need a congruence root, in order."""
     for entries in (reads(book), calls(book)):
         for first, second in combinations(entries, 2):
-            (symbol, rows), (other, others) = first.key, second.key
             constants = first.constant, second.constant
             unequal = None not in constants and constants[0] != constants[1]
-            if symbol == other and len(rows) == len(others) and not unequal:
+            if first.symbol == second.symbol and not unequal:
                 yield first, second
 
 
 def due_text(first, second):
     """The congruence root of two entries."""
-    equal = [f"Eq({a}, {b})" for a, b in zip(first.key[1], second.key[1])]
+    equal = [f"Eq({a}, {b})" for a, b in zip(first.rows, second.rows)]
     left = equal[0] if equal else "no arguments"
     for text in equal[1:]:
         left = f"BoolAnd({left}, {text})"
@@ -302,7 +361,7 @@ def root_mismatch(book, place, detail):
         count = sum(1 for _ in due(book))
         return [f"{leading} leading and {counted(count, 'congruence root')} are due, "
                 f"the target has {len(book.target_roots)}; left over from here:",
-                root_line(book, leading + count)]
+                root_line(book, leading + count)] + told_apart(calls(book))
     if place >= leading:
         return [f"source root {place}: there is none"]
     return ([f"source root {place}:"] + image_lines(book, book.roots[place])
@@ -326,8 +385,16 @@ def congruence_mismatch(book, place, detail):
         lines += [row_line(book.target, row) for row in below(book.target, root)]
     for position, (first, second) in enumerate(due(book), len(book.roots)):
         if position == place:
-            return lines + ["due there: " + due_text(first, second), first.line, second.line]
+            return (lines + ["due there: " + due_text(first, second), first.line, second.line]
+                    + common_function(book, first.symbol))
     return lines
+
+
+def common_function(book, symbol):
+    """The function of two calls, and those of its number and count that are others."""
+    if not isinstance(symbol, Function):
+        return []
+    return [f"both are of {symbol.text()}"] + namesakes(calls(book), symbol, NO_ROOT)
 
 
 # Shape: 20
@@ -366,7 +433,7 @@ def accepted(book):
             f"target: {counted(len(book.target.rows), 'row')}, {counted(leading, 'leading root')}, "
             f"{counted(len(book.target_roots) - leading, 'congruence root')}",
             f"{counted(len(reads(book)), 'read')} and {counted(len(calls(book)), 'call')} "
-            "became variables"]
+            "became variables"] + told_apart(calls(book))
 
 
 # Number: name, meaning, what shows its place.

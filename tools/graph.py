@@ -5,6 +5,7 @@ book's words itself; the widths here only serve comments and explanations.
 """
 
 import re
+from itertools import groupby
 from typing import Callable, NamedTuple
 
 MAX = 2**64 - 1
@@ -149,8 +150,47 @@ def row_text(row, size):
     return f"{tag.name} {fill(tag.shape.form, row[1:])}"
 
 
+def counted(count, what):
+    return f"{count} {what}" + ("" if count == 1 else "s")
+
+
 def bits_text(width):
-    return f"{width} bit" if width == 1 else f"{width} bits"
+    return counted(width, "bit")
+
+
+class Function(NamedTuple):
+    """All that tells functions apart: one number at other widths is another function."""
+
+    number: int
+    count: int  # of arguments
+    widths: tuple  # theirs, first to last; 0 where there is no good row
+    result: int
+
+    def text(self):
+        """As `function 0 of 2 arguments (8, 16 bits) giving 8 bits`."""
+        count = f"of {counted(self.count, 'argument')}" if self.count else "without arguments"
+        return f"function {word_text(self.number)} {count} {self.widths_text()}"
+
+    def widths_text(self):
+        taken = f"({list_text(self.widths)}) " if self.widths else ""
+        return f"{taken}giving {bits_text(self.result or '?')}"
+
+    def known(self):
+        """Whether every argument is there, and has a width as the result has."""
+        return len(self.widths) == self.count and all(self.widths) and self.result > 0
+
+    def namesake(self, other):
+        """Whether the two differ in their widths alone."""
+        return (self != other and self[:2] == other[:2]
+                and self.known() and other.known())
+
+
+def list_text(widths):
+    """Some widths, three and more equal ones in a row told by their number."""
+    runs = [(str(width or "?"), len(list(run))) for width, run in groupby(widths)]
+    texts = [f"{many} times {width}" if many > 2 else ", ".join([width] * many)
+             for width, many in runs]
+    return shortened(texts) + (" bit" if widths == (1,) else " bits")
 
 
 class Graph:
@@ -174,6 +214,10 @@ class Graph:
     def width_at(self, row):
         """The width of a row, 0 where there is none (yet)."""
         return self.widths[row] if row < len(self.widths) else 0
+
+    def function(self, number, count, rows, result):
+        """The function that is applied to some rows."""
+        return Function(number, count, tuple(map(self.width_at, rows)), result)
 
     def stretch(self, start, count):
         """Words of the side list, or None where they end past it."""

@@ -97,6 +97,12 @@ class Book:
     def image(self, row):
         return self.map[row] if row < len(self.map) else MAX
 
+    def call(self, words):
+        """The function of a whole call entry, and the target rows that it is applied to."""
+        variable, number, start, count = words
+        rows = self.arguments[start:start + count]
+        return self.target.function(number, count, rows, self.target.width_at(variable)), rows
+
 
 # From listing to book
 
@@ -265,10 +271,21 @@ def entry_text(form, words):
     return "words " + words_text(words)
 
 
-def entries_lines(section, words):
-    size = section.size
-    return [(f"{at // size}: " + entry_text(section.form, words[at:at + size]), "")
-            for at in range(0, len(words), size)]
+def table_entries(form, words):
+    """The words of each entry of a table; the last may be cut."""
+    size = form.count("#")
+    return [words[at:at + size] for at in range(0, len(words), size)]
+
+
+def entries_lines(form, words):
+    return [(f"{k}: " + entry_text(form, entry), "")
+            for k, entry in enumerate(table_entries(form, words))]
+
+
+def calls_lines(book):
+    notes = [book.call(entry)[0].text() if len(entry) == 4 else ""
+             for entry in table_entries(CALL, book.calls)]
+    return [(text, note) for (text, _), note in zip(entries_lines(CALL, book.calls), notes)]
 
 
 def map_lines(book):
@@ -312,14 +329,15 @@ def section_lines(book, place):
            "target": lambda: rows_lines(book.target),
            "source roots": lambda: roots_lines(book.source, book.roots),
            "target roots": lambda: roots_lines(book.target, book.target_roots),
-           "map": lambda: map_lines(book)}
+           "map": lambda: map_lines(book),
+           "calls": lambda: calls_lines(book)}
     if section.name in own:
         return own[section.name]()
     if section.form == BITS:
         return bits_lines(body)
     if section.form == PLAIN:
         return plain_lines(unpack(body))
-    return entries_lines(section, unpack(body))
+    return entries_lines(section.form, unpack(body))
 
 
 def listing(bodies):
