@@ -14,9 +14,9 @@ import xml.etree.ElementTree as xml
 
 import book as command
 from draw import draw, lanes
-from explain import ANSWERS, explain
-from graph import MAX, TAGS, known_tags
-from listing import SECTIONS, BadListing, BITS, ROW, decode, encode, listing, pack, parse
+from explain import ANSWERS, due, explain
+from graph import MAX, TAGS, Function, known_tags
+from listing import SECTIONS, BadListing, BITS, ROW, Book, decode, encode, listing, pack, parse
 
 TOP = command.TOP
 SAMPLES = sorted(glob.glob(os.path.join(TOP, "samples", "*.txt")))
@@ -205,6 +205,10 @@ class Shapes(unittest.TestCase):
                 self.assertTrue(explain(data, (20, place, 0)))
 
 
+# Two functions with one number, in samples/modules.txt.
+CURVE = "function 0 of 1 argument (8 bits) giving 8 bits"
+WEIGHT = "function 0 of 1 argument (16 bits) giving 16 bits"
+
 # What the explanation of a sample's answer must show.
 EXPLAINED = [
     ("case-1", ["satisfiable", "1 read"]),
@@ -222,6 +226,25 @@ EXPLAINED = [
                         "it would have 4,097 bits; no row may have more than 4,096"]),
     ("ceiling-target", ["it would have 18,446,744,073,709,551,616 bits; no row"]),
     ("empty-reply-wrong", ["pair 1", "read entry 2: variable 13", "target row 12: Var 8"]),
+    ("modules", ["0 reads and 6 calls", "call entries 0, 1 are of " + CURVE + "\n",
+                 "call entries 3, 4 are of " + WEIGHT + ": other widths, another function",
+                 "call entry 2 is of function 1 without arguments giving 8 bits\n",
+                 "call entry 5 is of function 1 without arguments giving 16 bits: other widths"]),
+    ("modules-wrong", ["due there: BoolOr(Not(Eq(0, 1)), Eq(2, 3))", "call entry 0: variable 2",
+                       "call entry 1: variable 3", "both are of " + CURVE + "\n",
+                       "call entries 3, 4 are of " + WEIGHT + ": other widths, another function, "
+                       "no root is due between two functions"]),
+    ("modules-again", ["call entry 2: variable 3", "the same key: call entry 0: variable 1",
+                       "the key: " + CURVE + ", with the target rows [0]",
+                       "call entry 1 is of function 0 of 1 argument (8 bits) giving 16 bits: "
+                       "other widths, another function, not the same key"]),
+    ("widths-result", ["call entry 1 is of function 3 without arguments giving 16 bits: other"]),
+    ("widths-arguments-left", ["0 leading and 1 congruence root are due, the target has 2",
+                               "target root 1: target row 14", "call entries 0, 2 are of ",
+                               "call entry 1 is of function 3 of 1 argument (16 bits) giving "
+                               "8 bits: other widths, another function, no root is due"]),
+    ("widths-arguments-first", ["due there: BoolOr(Not(Eq(0, 2)), Eq(3, 5))",
+                                "both are of function 3 of 1 argument (8 bits) giving 8 bits"]),
 ]
 
 
@@ -248,6 +271,75 @@ class Explanations(unittest.TestCase):
                 place = random_.choice([0, 1, 2, 3, 5, 40, MAX])
                 with self.subTest(seed=seed, number=number, place=place):
                     self.assertTrue(explain(data, (number, place, random_.choice([0, 1, 2, MAX]))))
+
+
+class Functions(unittest.TestCase):
+    """A function is its number, count, argument widths and result width."""
+
+    def test_texts(self):
+        for fields, text in (
+                ((0, 2, (8, 16), 8), "0 of 2 arguments (8, 16 bits) giving 8 bits"),
+                ((2, 2, (8, 8), 1), "2 of 2 arguments (8, 8 bits) giving 1 bit"),
+                ((3, 0, (), 16), "3 without arguments giving 16 bits"),
+                ((MAX, 1, (1,), 4096), "MAX of 1 argument (1 bit) giving 4096 bits"),
+                ((0, 4, (8, 8, 8, 16), 8), "0 of 4 arguments (3 times 8, 16 bits) giving 8 bits"),
+                ((0, 9, (8, 0), 0), "0 of 9 arguments (8, ? bits) giving ? bits"),
+                ((0, 9, (), 8), "0 of 9 arguments giving 8 bits")):
+            self.assertEqual(Function(*fields).text(), "function " + text)
+
+    def test_namesakes(self):
+        one = Function(0, 2, (8, 16), 8)
+        for other, alike in (((0, 2, (8, 16), 16), True), ((0, 2, (16, 8), 8), True),
+                             ((0, 2, (8, 16), 8), False), ((1, 2, (8, 8), 8), False),
+                             ((0, 1, (8,), 8), False), ((0, 2, (8, 0), 8), False)):
+            self.assertEqual(one.namesake(Function(*other)), alike)
+
+    def test_roots_are_due_within_a_function(self):
+        for name, pairs in (("modules", [(0, 1), (3, 4)]), ("widths-result", []),
+                            ("widths-arguments", [(0, 2)])):
+            found = due(Book(decode(sample(name, ".book"))[0]))
+            self.assertEqual([(first.number, second.number) for first, second in found], pairs)
+
+    def test_accepted_samples_have_the_roots_that_are_due(self):
+        for path in SAMPLES:
+            if sample(stem(path), ".line") == b"accepted\n":
+                book = Book(decode(sample(stem(path), ".book"))[0])
+                self.assertEqual(len(list(due(book))), len(book.target_roots) - len(book.roots))
+
+    def test_a_key_has_its_widths(self):
+        """Entry 1 has the number and the argument of entry 2, and is not named for it."""
+        lines = explain(sample("modules-again", ".book"), (6, 2, 0))
+        same = [line for line in lines if line.startswith("the same key: ")]
+        self.assertEqual(same, ["the same key: call entry 0: variable 1 function 0 arguments 0+1"])
+
+    def test_variable_of_another_function(self):
+        """A Call whose image is the variable of a call of its number at another width."""
+        swapped = sample("widths-result", ".txt").decode().replace("0 1\n", "1 0\n")
+        text = "\n".join(explain(parse(swapped), (11, 0, 0)))
+        self.assertIn("variable of a call of function 3 without arguments giving 8 bits\n", text)
+        self.assertIn("the entry of that row: call entry 1", text)
+        self.assertIn("the entry that is meant: call entry 0", text)
+        self.assertIn("call entry 1 is of function 3 without arguments giving 16 bits: other "
+                      "widths, another function, not the one that is called", text)
+
+    def test_no_width_is_no_other_width(self):
+        data = parse("calls\n variable 0 function 3 arguments 0+0\n"
+                     " variable 9 function 3 arguments 0+0\ntarget\n Var 8\n")
+        text = "\n".join(explain(data, (6, 1, 0)))
+        self.assertIn("the variable must be a Var; target row 9: there is none", text)
+        self.assertNotIn("other widths", text)
+
+    def test_many_are_shortened(self):
+        calls = "".join(f" variable {k} function 3 arguments 0+0\n" for k in range(90))
+        rows = "".join(f" Var {k % 30 + 1}\n" for k in range(90))
+        lines = explain(parse(f"calls\n{calls}target\n{rows}"), (0, 0, 0))
+        self.assertLess(len(lines), 12)
+        self.assertIn(".. and others", lines)
+
+    def test_shown(self):
+        text = listing(decode(sample("modules", ".book"))[0])
+        self.assertIn("1: variable 3 function 0 arguments 1+1     # " + CURVE, text)
+        self.assertIn("3: variable 10 function 0 arguments 2+1    # " + WEIGHT, text)
 
 
 def shapes(picture, kind, style):
@@ -281,6 +373,16 @@ class Pictures(unittest.TestCase):
         for text in ("source", "target", "3: Select array 7 index 1", "8 bits; 0 -&gt; 2",
                      "array 7 at 1", "5: Ite 4 2 3"):
             self.assertIn(text, picture)
+
+    def test_widths_of_functions(self):
+        """Only where another function has the same number and count."""
+        picture = self.picture("modules")
+        for text in ("function 0 of [1] (8 bits) giving 8 bits", "function 1 of [] giving 16 bits",
+                     "function 0 of [7] (16 bits) giving 16 bits"):
+            self.assertIn(text, picture)
+        picture = self.picture("empty-reply")
+        self.assertIn("function 2 of [11 12]", picture)
+        self.assertNotIn("giving", picture)
 
     def test_boxes_are_apart_and_inside(self):
         for path in SAMPLES:
