@@ -87,13 +87,13 @@ fn arg_widths_eq(cargs: &[u64], ws: &[u64], s: usize, t: usize, n: usize) -> boo
     requires { ⌜ (s + n ≤ length (now cargs)) × (t + n ≤ length (now cargs)) ⌝ }
     ensures test { λ b. ⌜ b ≡ argWidthsEq (now (cargs .entry)) (now (ws .entry)) s t n ⌝ }
 {
-    let mut l = 0;
-    while l < n {
-        let w = width_at(ws, cargs[s + l]);
-        if w != width_at(ws, cargs[t + l]) {
+    let mut i = 0;
+    while i < n {
+        let w = width_at(ws, cargs[s + i]);
+        if w != width_at(ws, cargs[t + i]) {
             return false;
         }
-        l += 1;
+        i += 1;
     }
     true
 }

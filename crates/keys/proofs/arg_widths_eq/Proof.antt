@@ -1,4 +1,4 @@
--- Invariant: the arguments before l have the same widths. Assumes nothing.
+-- Invariant: the arguments before i have the same widths. Assumes nothing.
 use Prim.Native.Nat.{_+_, _-_}
 use mathlib.Core.Path.{_∙_, sym}
 use borrow.Author.Needs.{needs}
@@ -8,10 +8,10 @@ use Rattle.keys.proofs.arg_widths_eq.Statement.{statement}
 use Rattle.keys.proofs.arg_widths_eq.Tie as tie
 
 abbrev Inv-loop : tie.InvT-loop
-Inv-loop cargs ws s t n l₀ l = Agreed (λ i. getD ws (getD cargs (s + i) 0) 0) (λ i. getD ws (getD cargs (t + i) 0) 0) n l
+Inv-loop cargs ws s t n i₀ i = Agreed (λ j. getD ws (getD cargs (s + j) 0) 0) (λ j. getD ws (getD cargs (t + j) 0) 0) n i
 
 abbrev μ-loop : tie.MeasureT-loop
-μ-loop cargs ws s t n l₀ l = n - l
+μ-loop cargs ws s t n i₀ i = n - i
 
 loop-holds : tie.Need-loop-holds Inv-loop μ-loop
 loop-holds c = agreed-none _ _ _
@@ -46,8 +46,8 @@ returns c =
     agreed-no _ _ _ _ (in-loop .before .loop .inv) (in-loop .loop-test .taken)
     (λ z. c .if1 .taken (c .before .before .before .width-at .ensures ∙ z ∙ sym (c .before .width-at2 .ensures)))
 
-add-l : tie.Need-add-l Inv-loop μ-loop
-add-l c = search needs
+add-i : tie.Need-add-i Inv-loop μ-loop
+add-i c = search needs
 
 loop-less : tie.Need-loop-less Inv-loop μ-loop
 loop-less c = search needs
@@ -77,7 +77,7 @@ arg-widths-eq-spec =
     shared-slice-read-width-at-2
     width-at-requires-2
     returns
-    add-l
+    add-i
     loop-less
     loop-again
     returns-2)
