@@ -44,4 +44,5 @@ module _ (target ws : List ℕ) (even : EqsEven target ws) where
   one-function calls cargs troots k l q f n e =
       let (result, arguments) = congruent-even _ _ _ _ _ _ (root-congruent calls cargs troots k l q e) in
       let below : (x : ℕ) → x < argCount calls l → x < argCount calls k = λ x h. omega (arith, n) in
-      rw (eq-eqb _ _ f, eq-eqb _ _ n, eq-eqb _ _ result, agree-yes (argWidth calls cargs ws k) (argWidth calls cargs ws l) (argCount calls l) (λ x h. arguments x (below x h)))
+      let widths = agree-yes (argWidth calls cargs ws k) (argWidth calls cargs ws l) (argCount calls l) (λ x h. arguments x (below x h)) in
+      rw (eq-eqb _ _ f, eq-eqb _ _ n, eq-eqb _ _ result, widths)

@@ -195,13 +195,16 @@ three-calls u troots =
     (t4 0 8 0 0 (t4 0 u 0 0 (t4 0 8 0 0 (t4 0 8 0 0 (t4 0 8 0 0 (t4 0 8 0 0
     (t4 19 0 2 0 (t4 29 6 0 0 (t4 19 3 5 0 (t4 31 7 8 0 (t4 19 3 4 0 (t4 31 7 10 0 [])))))))))))) [] troots
 
-cases-arguments : answer (three-calls 16 (9 ∷ []))
-    ∷ answer (three-calls 16 [])
+case-arguments : answer (three-calls 16 (9 ∷ [])) ≡ accepted
+unfolding firstRefusal build first all agree trace rowIs bothConst sameConst unequalConst sameRead sameFunction sameCall readGood callGood isEq isLevel walk endGood callMatches varMatches nodeMatches rowAnswer rowClasses leads pairsWith pairs readsNeed allEqual congruent rootAt
+case-arguments = refl
+
+cases-arguments : answer (three-calls 16 [])
     ∷ answer (three-calls 16 (11 ∷ 9 ∷ []))
     ∷ answer (three-calls 16 (9 ∷ 11 ∷ []))
     ∷ answer (three-calls 8 (9 ∷ []))
     ∷ []
-    ≡ accepted ∷ words 13 0 0 ∷ words 13 0 0 ∷ words 12 0 0 ∷ words 13 0 0 ∷ []
+    ≡ words 13 0 0 ∷ words 13 0 0 ∷ words 12 0 0 ∷ words 13 0 0 ∷ []
 unfolding firstRefusal build first all agree trace rowIs bothConst sameConst unequalConst sameRead sameFunction sameCall readGood callGood isEq isLevel walk endGood callMatches varMatches nodeMatches rowAnswer rowClasses leads pairsWith pairs readsNeed allEqual congruent rootAt
 cases-arguments = refl
 

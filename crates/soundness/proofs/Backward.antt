@@ -24,7 +24,8 @@ use Rattle.value.specs.Graph.{Assigns}
 use Rattle.value.proofs.Tagged.{node-var}
 use Rattle.meaning.specs.Meaning.{Interpretation, OfKind, RootsTrue, sourceValue}
 use Rattle.lowering.specs.Images.{fieldAt, unequalConst}
-use Rattle.lowering.specs.Tables.{readCount, readVar, readArray, readIndex, callCount, callVar, callFunction, argCount, callArg, resultWidth, argWidth, sameFunction}
+use Rattle.lowering.specs.Tables.{readCount, readVar, readArray, readIndex, callCount, callVar, callFunction, argCount, callArg}
+use Rattle.lowering.specs.Tables.{resultWidth, argWidth, sameFunction}
 use Rattle.lowering.specs.Lowering.{Lowering, sourceRows, targetRows}
 use Rattle.lowering.specs.Check.{widthsOfTarget}
 use Rattle.lowering.proofs.Images.{const-row, both-const}
@@ -111,7 +112,8 @@ module _ (L : Lowering) (F : Formed L) (M : Matched L) (A : ℕ → ℕ) (fits :
   result-width q h =
       let e = M .of-call q h in
       let r = callVar (L .calls) q in
-      sym (row-width L F A fits r (e .inside)) ∙ ap wid (row-value L F A fits r _ (e .inside) (e .is-var)) ∙ sym (node-var (rowAt Target (L .target .rows) r) (e .width) (e .is-var) .1)
+      let (_, width) = node-var (rowAt Target (L .target .rows) r) (e .width) (e .is-var) in
+      sym (row-width L F A fits r (e .inside)) ∙ ap wid (row-value L F A fits r _ (e .inside) (e .is-var)) ∙ sym width
 
   arg-width : (q l : ℕ) → q < callCount (L .calls) → l < argCount (L .calls) q
       → argWidth (L .calls) (L .cargs) (widthsOfTarget L) q l ≡ wid (v (callArg (L .calls) (L .cargs) q l))
@@ -225,7 +227,8 @@ module _ (L : Lowering) (F : Formed L) (M : Matched L) (A : ℕ → ℕ) (fits :
             let l : p ≤ q = first-upto (callHit L A f w vs) _ q (call-hits q f w vs (z .function-is) width n) in
             let b : p < callCount (L .calls) = omega (arith, z .inside) in
             let (e, y, s) = call-hit p f w vs (first-hit (callHit L A f w vs) _ b) in
-            at-result f w vs ∙ rw (lt-ltb _ _ b) (calls-agree p q l (z .inside) (e ∙ sym (z .function-is)) (y ∙ sym width) (s ∙ sym n) ∙ ap A (z .variable-is))
+            let same = calls-agree p q l (z .inside) (e ∙ sym (z .function-is)) (y ∙ sym width) (s ∙ sym n) in
+            at-result f w vs ∙ rw (lt-ltb _ _ b) (same ∙ ap A (z .variable-is))
 
     pub backward-agree : (i : ℕ) → Agree L F M I A fits i
     backward-agree = agree-rows L F M I A fits (λ i w k e. variable-at L A J i ∙ rw (lt-ltb _ _ (k .1))) leaf-read leaf-call

@@ -62,7 +62,8 @@ pub fn roots(
     requires { ⌜ EqsEven (now target) (now ws) ⌝ }
     requires { ⌜ ConstsWithin Graph.Target (now tbits) (now target) ⌝ }
     ensures answer { λ r. ⌜ r ≡ firstRefusal (rootAnswers (entries (now (reads .entry)) (now (calls .entry)) (now (cargs .entry)))
-        (targetGraph (now (target .entry)) (now (tbits .entry))) (now (ws .entry)) (now (map .entry)) (now (eroots .entry)) (now (troots .entry))) ⌝ }
+        (targetGraph (now (target .entry)) (now (tbits .entry))) (now (ws .entry)) (now (map .entry)) (now (eroots .entry))
+        (now (troots .entry))) ⌝ }
 {
     let lead = leads::ext_roots_corr(eroots, map, troots);
     if lead < eroots.len() {

@@ -8,6 +8,7 @@ use borrow.Author.Tests.{not-true, not-false}
 use lib.ListN.{length}
 use Rattle.lowering.specs.Tables.{callCount, callFunction, callStart, argCount, sameFunction}
 use Rattle.lowering.specs.Roots.{pair, callRoot, rootAt}
+use Rattle.keys.specs.Keys.{functionsAgree}
 use Rattle.keys.proofs.Keys.{same-function-at, other-function, one-count}
 use Rattle.pairs.proofs.Walk.{RowKept, row-end, row-skip, row-on, row-stop, root-inside}
 use Rattle.congruence.proofs.Even.{one-function}
@@ -108,7 +109,9 @@ needs-is : (c : tie.After-same-function Inv-loop μ-loop)
 needs-is c =
     let a = c .before .before .before .before .before .before .before .before in
     let s = start a .args in
-    c .same-function .ensures ∙ same-function-at (s .calls .now) (s .cargs .now) (s .ws .now) _ _ (s .k) (a .loop .l) refl refl
+    let agree = functionsAgree (s .calls .now) (s .cargs .now) (s .ws .now) (s .k * 4) (a .loop .l * 4) in
+    let e : c .same-function .result ≡ agree = c .same-function .ensures in
+    e ∙ same-function-at (s .calls .now) (s .cargs .now) (s .ws .now) _ _ (s .k) (a .loop .l) refl refl
 
 stands-is : (c : tie.After-call-stands Inv-loop μ-loop)
     → let a = c .before .before .before .before .before .before in
@@ -168,16 +171,19 @@ loop-again c =
     let at-loop = c .before .before .before in
     let s = start at-loop .args in
     let l = at-loop .loop in
-    let h = rw (counted at-loop .call-count .ensures) at (c .before .before .loop-test .taken) in (
+    let h = rw (counted at-loop .call-count .ensures) at (c .before .before .loop-test .taken) in
+    let one = one-function (s .target .now) (s .ws .now) (start at-loop .pre .1 .0) (s .calls .now) (s .cargs .now) (s .troots .now) (s .k) (l .l) in
+    let same = same-function-at (s .calls .now) (s .cargs .now) (s .ws .now) _ _ (s .k) (l .l) refl refl in
+    let other = other-function (s .calls .now) (s .cargs .now) (s .ws .now) (s .k) (l .l) in (
       omega arith,
       ⊎-elim
           (λ w.
           let stands = sym (w .3 .ensures) ∙ w .4 .taken in
           let (f, n) = told record { before = c .before; if1 = w .0 } in
-          rw (w .5) (row-on (l .inv .1) h (one-function (s .target .now) (s .ws .now) (start at-loop .pre .1 .0) (s .calls .now) (s .cargs .now) (s .troots .now) (s .k) (l .l) (l .idx) f n stands) stands))
+          rw (w .5) (row-on (l .inv .1) h (one (l .idx) f n stands) stands))
           (⊎-elim
-          (λ w. rw (w .7) (row-skip (l .inv .1) h (sym (same-function-at (s .calls .now) (s .cargs .now) (s .ws .now) _ _ (s .k) (l .l) refl refl) ∙ sym (w .5 .ensures) ∙ w .6 .left)))
-          (λ w. rw (w .1) (row-skip (l .inv .1) h (other-function (s .calls .now) (s .cargs .now) (s .ws .now) (s .k) (l .l) (sym (c .before .function-is .ensures) ∙ w .0 .left)))))
+          (λ w. rw (w .7) (row-skip (l .inv .1) h (sym same ∙ sym (w .5 .ensures) ∙ w .6 .left)))
+          (λ w. rw (w .1) (row-skip (l .inv .1) h (other (sym (c .before .function-is .ensures) ∙ w .0 .left)))))
           (c .if1 .came),
     )
 

@@ -1,6 +1,6 @@
 -- Invariant: the arguments before i have the same widths. Assumes nothing.
 use Prim.Native.Nat.{_+_, _-_}
-use mathlib.Core.Path.{_∙_, sym}
+use mathlib.Core.Path.{_≡_, _∙_, sym}
 use borrow.Author.Needs.{needs}
 use lib.ListN.{getD}
 use Rattle.images.proofs.Agree.{Agreed, agreed-none, agreed-more, agreed-no, agreed-all}
@@ -40,11 +40,19 @@ shared-slice-read-width-at-2 c = search needs
 width-at-requires-2 : tie.Need-width-at-requires-2 Inv-loop μ-loop
 width-at-requires-2 c κs = search needs
 
+-- what the two widths are
+widths-are : (c : tie.After-width-at2 Inv-loop μ-loop)
+    → let a = c .before .before .before .before .before in
+    let s = a .before .before .before .args in
+    (c .before .before .width-at .result ≡ getD (s .ws .now) (getD (s .cargs .now) (s .s + a .loop .i) 0) 0)
+    × (c .width-at2 .result ≡ getD (s .ws .now) (getD (s .cargs .now) (s .t + a .loop .i) 0) 0)
+widths-are c = (c .before .before .width-at .ensures, c .width-at2 .ensures)
+
 returns : tie.Need-returns Inv-loop μ-loop
 returns c =
     let in-loop = c .before .before .before .before .before in
-    agreed-no _ _ _ _ (in-loop .before .loop .inv) (in-loop .loop-test .taken)
-    (λ z. c .if1 .taken (c .before .before .before .width-at .ensures ∙ z ∙ sym (c .before .width-at2 .ensures)))
+    let (p, q) = widths-are (c .before) in
+    agreed-no _ _ _ _ (in-loop .before .loop .inv) (in-loop .loop-test .taken) (λ z. c .if1 .taken (p ∙ z ∙ sym q))
 
 add-i : tie.Need-add-i Inv-loop μ-loop
 add-i c = search needs
@@ -55,8 +63,8 @@ loop-less c = search needs
 loop-again : tie.Need-loop-again Inv-loop μ-loop
 loop-again c =
     let in-loop = c .before .before .before .before .before in
-    agreed-more _ _ _ _ (in-loop .before .loop .inv) (in-loop .loop-test .taken)
-    (sym (c .before .before .before .width-at .ensures) ∙ c .if1 .left ∙ c .before .width-at2 .ensures)
+    let (p, q) = widths-are (c .before) in
+    agreed-more _ _ _ _ (in-loop .before .loop .inv) (in-loop .loop-test .taken) (sym p ∙ c .if1 .left ∙ q)
 
 returns-2 : tie.Need-returns-2 Inv-loop μ-loop
 returns-2 c = agreed-all _ _ _ _ (c .before .loop .inv) (c .loop-test .left)

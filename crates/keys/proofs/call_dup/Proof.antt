@@ -1,6 +1,7 @@
 -- Invariant: no entry before the offset has the key; entry k itself ends the search. Assumes nothing.
-use Prim.Native.Nat.{_<_, _≤_, _+_, _*_, _-_}
+use Prim.Native.Nat.{ℕ, _<_, _≤_, _+_, _*_, _-_}
 use mathlib.Core.Path.{_≡_, _∙_, sym}
+use mathlib.Core.Bool.{Bool, true}
 use native.Mathlib.Omega.{arith}
 use borrow.Author.Needs.{needs}
 use borrow.Author.Tests.{not-true, not-false}
@@ -61,10 +62,16 @@ call-again-requires c κs =
 abbrev entry : tie.Then1 Inv-loop μ-loop → tie.Start Inv-loop μ-loop
 entry c = c .before .before .before .before .before .before .before .before .before
 
+-- entry i has the key; entry k has it
+abbrev has-key : tie.Start Inv-loop μ-loop → ℕ → Bool
+has-key p i = let s = p .args in sameCall (s .calls .now) (s .cargs .now) (s .ws .now) i (s .k)
+
+self : (p : tie.Start Inv-loop μ-loop) → has-key p (p .args .k) ≡ true
+self p = let s = p .args in call-self (s .calls .now) (s .cargs .now) (s .ws .now) (s .k)
+
 -- what the call tests: the entry at the offset has the key
 test : (c : tie.After-call-again Inv-loop μ-loop)
-    → let s = c .before .before .before .before .before .before .before .before .args in
-    c .call-again .result ≡ sameCall (s .calls .now) (s .cargs .now) (s .ws .now) (c .before .loop .inv .0) (s .k)
+    → c .call-again .result ≡ has-key (c .before .before .before .before .before .before .before .before) (c .before .loop .inv .0)
 test c =
     let s = c .before .before .before .before .before .before .before .before .args in
     let l = c .before .loop in
@@ -73,9 +80,8 @@ test c =
 -- where it has not, a whole entry follows
 more : (c : tie.Then1 Inv-loop μ-loop) → c .before .before .loop .off + 4 ≤ entry c .args .k * 4
 more c =
-    let s = entry c .args in
     let l = c .before .before .loop in
-    goes-on (λ i. sameCall (s .calls .now) (s .cargs .now) (s .ws .now) i (s .k)) 4 (s .k) (call-self (s .calls .now) (s .cargs .now) (s .ws .now) (s .k)) (l .off) (l .inv) (sym (test (c .before)) ∙ not-true _ (c .if1 .taken))
+    goes-on (has-key (entry c)) 4 (entry c .args .k) (self (entry c)) (l .off) (l .inv) (sym (test (c .before)) ∙ not-true _ (c .if1 .taken))
 
 add-off : tie.Need-add-off Inv-loop μ-loop
 add-off c = omega (arith, more c)
@@ -85,15 +91,14 @@ loop-less c = omega (arith, more c)
 
 loop-again : tie.Need-loop-again Inv-loop μ-loop
 loop-again c =
-    let s = entry c .args in
     let l = c .before .before .loop in
-    searched-more (λ i. sameCall (s .calls .now) (s .cargs .now) (s .ws .now) i (s .k)) 4 (s .k) (call-self (s .calls .now) (s .cargs .now) (s .ws .now) (s .k)) (l .off) (l .inv) (sym (test (c .before)) ∙ not-true _ (c .if1 .taken))
+    searched-more (has-key (entry c)) 4 (entry c .args .k) (self (entry c)) (l .off) (l .inv) (sym (test (c .before)) ∙ not-true _ (c .if1 .taken))
 
 returns : tie.Need-returns Inv-loop μ-loop
 returns c =
-    let s = c .before .before .before .before .before .before .before .before .before .args in
+    let p = c .before .before .before .before .before .before .before .before .before in
     let l = c .before .before .loop in
-    found (λ i. sameCall (s .calls .now) (s .cargs .now) (s .ws .now) i (s .k)) 4 (s .k) (call-self (s .calls .now) (s .cargs .now) (s .ws .now) (s .k)) (l .off) (l .inv) (omega arith) (sym (test (c .before)) ∙ not-false _ (c .if1 .left))
+    found (has-key p) 4 (p .args .k) (self p) (l .off) (l .inv) (omega arith) (sym (test (c .before)) ∙ not-false _ (c .if1 .left))
 
 pub call-dup-spec : {M : Type 1} → statement M
 call-dup-spec =

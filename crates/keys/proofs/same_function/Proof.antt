@@ -59,9 +59,17 @@ shared-slice-read-width-at-2 c = search needs
 width-at-requires-2 : tie.Need-width-at-requires-2
 width-at-requires-2 c κs = search needs
 
+-- what the two widths are
+results : (c : tie.After-width-at2)
+    → let s = c .before .before .before .before .before .before .before .before .before .before .before .args in
+    (c .before .before .width-at .result ≡ getD (s .ws .now) (getD (s .calls .now) (s .p) 0) 0)
+    × (c .width-at2 .result ≡ getD (s .ws .now) (getD (s .calls .now) (s .q) 0) 0)
+results c = (c .before .before .width-at .ensures, c .width-at2 .ensures)
+
 returns-2 : tie.Need-returns-2
 returns-2 c =
-    fails _ (ne-eqb _ _ (λ z. c .if2 .taken (c .before .before .before .width-at .ensures ∙ z ∙ sym (c .before .width-at2 .ensures))))
+    let (p, q) = results (c .before) in
+    fails _ (ne-eqb _ _ (λ z. c .if2 .taken (p ∙ z ∙ sym q)))
     ∙ passes _ (one (c .before .before .before .before .before))
 
 add-arg-widths-eq : tie.Need-add-arg-widths-eq
@@ -93,8 +101,9 @@ arg-widths-eq-requires c κs =
 returns-3 : tie.Need-returns-3
 returns-3 c =
     let compared = c .before .before .before in
+    let (p, q) = results (compared .before) in
     c .arg-widths-eq .ensures ∙ alone _
-    ∙ passes _ (eq-eqb _ _ (sym (compared .before .before .before .width-at .ensures) ∙ compared .if2 .left ∙ compared .before .width-at2 .ensures))
+    ∙ passes _ (eq-eqb _ _ (sym p ∙ compared .if2 .left ∙ q))
     ∙ passes _ (one (compared .before .before .before .before .before))
 
 pub same-function-spec : {M : Type 1} → statement M

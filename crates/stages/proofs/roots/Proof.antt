@@ -30,7 +30,8 @@ returns c =
     let at-leads = c .before in
     let at-start = start at-leads in
     let s = at-start .args in
-    lead-12 (tables at-start) (graph at-start) (s .ws .now) (s .map .now) (s .eroots .now) (s .troots .now) _ (at-leads .ext-roots-corr .ensures) (c .if1 .taken)
+    lead-12 (tables at-start) (graph at-start) (s .ws .now) (s .map .now) (s .eroots .now) (s .troots .now) _ (at-leads .ext-roots-corr .ensures)
+    (c .if1 .taken)
 
 array-cong-requires : tie.Need-array-cong-requires
 array-cong-requires c κs = search needs
@@ -41,7 +42,8 @@ returns-2 c =
     let at-leads = leads-done at-reads in
     let at-start = start at-leads in
     let s = at-start .args in
-    read-13 (tables at-start) (graph at-start) (s .ws .now) (s .map .now) (s .eroots .now) (s .troots .now) _ (at-leads .ext-roots-corr .ensures) (at-reads .before .if1 .left) _ (at-reads .array-cong .ensures) (c .if2 .taken)
+    read-13 (tables at-start) (graph at-start) (s .ws .now) (s .map .now) (s .eroots .now) (s .troots .now) _ (at-leads .ext-roots-corr .ensures)
+    (at-reads .before .if1 .left) _ (at-reads .array-cong .ensures) (c .if2 .taken)
 
 uf-cong-requires : tie.Need-uf-cong-requires
 uf-cong-requires c κs = search needs
@@ -53,7 +55,8 @@ returns-3 c =
     let at-leads = leads-done at-reads in
     let at-start = start at-leads in
     let s = at-start .args in
-    call-13 (tables at-start) (graph at-start) (s .ws .now) (s .map .now) (s .eroots .now) (s .troots .now) _ (at-leads .ext-roots-corr .ensures) (at-reads .before .if1 .left) _ (at-reads .array-cong .ensures) (at-calls .before .if2 .left) _ (at-calls .uf-cong .ensures) (c .if3 .taken)
+    call-13 (tables at-start) (graph at-start) (s .ws .now) (s .map .now) (s .eroots .now) (s .troots .now) _ (at-leads .ext-roots-corr .ensures)
+    (at-reads .before .if1 .left) _ (at-reads .array-cong .ensures) (at-calls .before .if2 .left) _ (at-calls .uf-cong .ensures) (c .if3 .taken)
 
 returns-4 : tie.Need-returns-4
 returns-4 c =
@@ -62,7 +65,9 @@ returns-4 c =
     let at-leads = leads-done at-reads in
     let at-start = start at-leads in
     let s = at-start .args in
-    surplus-12 (tables at-start) (graph at-start) (s .ws .now) (s .map .now) (s .eroots .now) (s .troots .now) _ (at-leads .ext-roots-corr .ensures) (at-reads .before .if1 .left) _ (at-reads .array-cong .ensures) (at-calls .before .if2 .left) _ (at-calls .uf-cong .ensures) (c .before .before .if3 .left) (c .if4 .taken)
+    surplus-12 (tables at-start) (graph at-start) (s .ws .now) (s .map .now) (s .eroots .now) (s .troots .now) _ (at-leads .ext-roots-corr .ensures)
+    (at-reads .before .if1 .left) _ (at-reads .array-cong .ensures) (at-calls .before .if2 .left) _ (at-calls .uf-cong .ensures)
+    (c .before .before .if3 .left) (c .if4 .taken)
 
 returns-5 : tie.Need-returns-5
 returns-5 c =
@@ -71,7 +76,9 @@ returns-5 c =
     let at-leads = leads-done at-reads in
     let at-start = start at-leads in
     let s = at-start .args in
-    roots-good (tables at-start) (graph at-start) (s .ws .now) (s .map .now) (s .eroots .now) (s .troots .now) _ (at-leads .ext-roots-corr .ensures) (at-reads .before .if1 .left) _ (at-reads .array-cong .ensures) (at-calls .before .if2 .left) _ (at-calls .uf-cong .ensures) (c .before .before .if3 .left) (c .if4 .left)
+    roots-good (tables at-start) (graph at-start) (s .ws .now) (s .map .now) (s .eroots .now) (s .troots .now) _ (at-leads .ext-roots-corr .ensures)
+    (at-reads .before .if1 .left) _ (at-reads .array-cong .ensures) (at-calls .before .if2 .left) _ (at-calls .uf-cong .ensures)
+    (c .before .before .if3 .left) (c .if4 .left)
 
 pub roots-spec : {M : Type 1} → statement M
 roots-spec =
