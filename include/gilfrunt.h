@@ -245,13 +245,19 @@ gilfrunt_answer gilfrunt_values(
  *    3  place expected,    map_len is not the number of source rows
  *       detail found
  *    5  place entry        bad read entry
- *    6  place entry        bad call entry
+ *    6  place entry        bad call entry, also one whose function and argument
+ *                          rows an earlier entry has. A function is its number,
+ *                          its count, the widths of its arguments and of its
+ *                          result, all together
  *    4, 7 to 11            source row that is mapped past the target, or does not
  *       place row          match its image: variable, constant, other row,
  *                          Select, Call
  *   14  place variable     entry that no source row reaches
  *   12  place position     source root whose image is not the target's root there
- *   13  place position     target root that is not the congruence root due there
+ *   13  place position     target root that is not the congruence root due there:
+ *                          one for each two reads of one array, but not for
+ *                          unequal constant indices, and for each two calls of
+ *                          one function
  *   12  place 0            target roots left over
  *    0                     accepted: source and target are satisfiable together,
  *                          and leave the same values of mapped variables open

@@ -63,7 +63,7 @@ allEqual target xs ys (suc n) r =
     ∷ [])
 
 -- "BoolOr(Not(Eq(indices)), Eq(variables))": target row r says that u and v are equal where the k rows xs and ys are.
--- Two calls without arguments have one key (6), so there is at least one
+-- Two calls of one function without arguments have one key (6), so there is at least one
 unfoldable pub congruent : List ℕ → (ℕ → ℕ) → (ℕ → ℕ) → ℕ → ℕ → ℕ → ℕ → Bool
 congruent target xs ys k u v r =
     all
