@@ -12,6 +12,7 @@ use std::time::Duration;
 use crate::book::{self, Fault, Shape, LONGEST, SECTIONS};
 use crate::bookdamage;
 use crate::check::CHECK;
+use crate::functioncounts;
 use crate::judged;
 use crate::operation::Operation;
 use crate::ours::Answer;
@@ -148,9 +149,13 @@ fn judged_by(input: &[u8], expected: Answer) -> Option<String> {
     if book::input_shape(input) != Shape::Good || (15..=18).contains(&expected.number) {
         return None;
     }
-    let above = || rules::above(CHECK.lists(), &book::held(input)).is_some();
+    let held = book::held(input);
+    let above = || rules::above(CHECK.lists(), &held).is_some();
     if matches!(expected.number, 1 | 2) && above() {
         return Some(by_rule(expected.number));
+    }
+    if CHECK.told_apart(&held) {
+        return Some(by_widths(expected.number));
     }
     Some(BY_RUST.to_string())
 }
@@ -159,6 +164,10 @@ const BY_RUST: &str = "with the Rust";
 
 fn by_rule(number: u64) -> String {
     format!("{} above the ceiling, by the rule", numbered(number))
+}
+
+fn by_widths(number: u64) -> String {
+    format!("{}, functions told apart by widths", numbered(number))
 }
 
 const LONGEST_AND_ONE: usize = LONGEST + 1;
@@ -185,6 +194,7 @@ fn due() -> Vec<String> {
     due.extend([Shape::Short, Shape::LeftOver, Shape::Long].map(shaped));
     due.extend([LAST_TAKEN, FIRST_REFUSED, BY_RUST].map(String::from));
     due.extend([1, 2].map(by_rule));
+    due.extend(functioncounts::DUE.map(by_widths));
     for section in 0..SECTIONS {
         let mut faults = vec![Fault::Start, Fault::Past];
         if !book::is_bits(section) {

@@ -1,5 +1,6 @@
 //! What a run has met at the ceiling: who answered, the Rust or the rule, and by
-//! tag the rows that just reach it and those that pass it.
+//! tag the rows that just reach it and those that pass it. Where functions are told
+//! apart by their widths, another rule answered; functioncounts.rs has those cases.
 
 use crate::operation::{Lists, Operation};
 use crate::ours::Answer;
@@ -43,8 +44,9 @@ impl CeilingCounts {
     }
 
     /// Counts a case. 15 to 18 come before the Rust is asked; after 21 the graph
-    /// is known to be well formed, as after acceptance.
-    pub fn count(&mut self, lists: &Lists, answer: Answer) {
+    /// is known to be well formed, as after acceptance. Where functions are told
+    /// apart neither the Rust nor the ceiling answered.
+    pub fn count(&mut self, lists: &Lists, answer: Answer, told_apart: bool) {
         let mut graphs = self.graphs.iter_mut();
         let by_rule = match answer.number {
             15..=18 => return,
@@ -55,7 +57,7 @@ impl CeilingCounts {
             number => graphs.any(|rows| rows.graph.number == number && rows.count_refused(lists)),
         };
         self.rule += u64::from(by_rule);
-        self.rust += u64::from(!by_rule);
+        self.rust += u64::from(!by_rule && !told_apart);
     }
 
     pub fn print(&self) {

@@ -1,17 +1,22 @@
 //! Check as an operation. The answer that is expected comes from the published
-//! Rust, or from the ceiling where a row passes it; classes and entry offsets,
-//! which the Rust keeps to itself, and the second reference come from restated.rs.
+//! Rust; from the ceiling where a row passes it; from restated.rs where calls of one
+//! number and count are told apart by their widths. Classes and entry offsets, which
+//! the Rust keeps to itself, come from restated.rs. The second reference is
+//! restated.rs where the Rust is the first, else the Rust with the functions renamed.
 //! selftest.rs runs it without the library.
 
 use crate::ceilingcases;
 use crate::changes;
 use crate::features;
+use crate::functioncases;
+use crate::functions;
 use crate::lowering;
 use crate::marked;
 use crate::operation::{Feature, Kind, Lists, Operation, Outcome};
 use crate::ours::{self, Answer};
 use crate::random::Random;
 use crate::reference;
+use crate::renamed::renamed;
 use crate::restated::{self, Written};
 use crate::rules::{self, ACCEPTED, SOURCE, TARGET};
 use crate::spoil;
@@ -98,11 +103,17 @@ impl Operation for Check {
             .map(|lists| (lists, ACCEPTED))
             .chain(marked::refused())
             .chain(ceilingcases::lowerings())
+            .chain(functioncases::known())
             .collect()
     }
 
     fn changed(&self) -> Vec<Lists> {
-        marked::accepted().iter().flat_map(changes::each).collect()
+        let accepted = marked::accepted().into_iter();
+        let told_apart = functioncases::to_change();
+        accepted
+            .chain(told_apart)
+            .flat_map(|lists| changes::each(&lists))
+            .collect()
     }
 
     /// An accepted lowering, then none to three damages.
@@ -130,25 +141,30 @@ impl Operation for Check {
     }
 
     fn expected(&self, lists: &Lists) -> Outcome {
+        let asked = || match self.told_apart(lists) {
+            true => restated::check(lists).0,
+            false => reference::check(lists),
+        };
         let answer = rules::check(lists)
             .or_else(|| rules::above(self.lists(), lists))
-            .unwrap_or_else(|| reference::check(lists));
-        let written = if answer == ACCEPTED {
-            let [source, target] = reference::check_widths(lists);
-            let [_, _, classes, entries] = restated::check(lists).1;
-            [source, target, classes, entries]
-        } else {
-            Written::default()
-        };
-        outcome(lists, answer, &written)
+            .unwrap_or_else(asked);
+        with_widths(lists, answer)
     }
 
     fn second(&self, lists: &Lists) -> Option<Outcome> {
-        let (answer, written) = match rules::check(lists) {
-            Some(refusal) => (refusal, Written::default()),
-            None => restated::check(lists),
-        };
+        if let Some(refusal) = rules::check(lists) {
+            return Some(outcome(lists, refusal, &Written::default()));
+        }
+        if self.told_apart(lists) {
+            let answer = reference::check(&renamed(lists)?);
+            return Some(with_widths(lists, answer));
+        }
+        let (answer, written) = restated::check(lists);
         Some(outcome(lists, answer, &written))
+    }
+
+    fn told_apart(&self, lists: &Lists) -> bool {
+        rules::check(lists).is_none() && functions::told_apart(lists)
     }
 
     /// The case without a row, later rows counted anew; without an entry of a
@@ -230,6 +246,17 @@ fn outcome(lists: &Lists, answer: Answer, written: &Written) -> Outcome {
         lists: after,
         strayed: false,
     }
+}
+
+/// The outcome of an answer, where acceptance writes the widths of the Rust, and
+/// classes and entries of restated.rs.
+fn with_widths(lists: &Lists, answer: Answer) -> Outcome {
+    if answer != ACCEPTED {
+        return outcome(lists, answer, &Written::default());
+    }
+    let [source, target] = reference::check_widths(lists);
+    let [_, _, classes, entries] = restated::check(lists).1;
+    outcome(lists, answer, &[source, target, classes, entries])
 }
 
 /// The lists without a stretch of one of them.

@@ -7,7 +7,7 @@ use crate::lowering;
 use crate::operation::Lists;
 use crate::random::Random;
 use crate::rules::TARGET;
-use crate::sources::Function;
+use crate::signatures::Functions;
 use crate::tags::*;
 
 /// About the most rows of a source that is made as those of Check.
@@ -35,7 +35,7 @@ pub fn lowering(random: &mut Random) -> Lists {
 /// roots do not need.
 fn source(random: &mut Random) -> (Builder<'_>, Vec<u64>) {
     let mut source = Builder::new(random, Style::Small, usize::MAX);
-    let mut functions = Vec::new();
+    let mut functions = Functions::new(source.random);
     source.variables();
     for _ in 0..source.random.pick(&[0, 2, 4, 5, 6, 7, 8]) {
         source.step(&mut functions);
@@ -60,11 +60,11 @@ impl Builder<'_> {
     }
 
     /// One or a few rows more.
-    fn step(&mut self, functions: &mut Vec<Function>) {
+    fn step(&mut self, functions: &mut Functions) {
         match self.random.below(12) {
             0..=2 if self.count(SELECT) < READS => self.read(),
             3..=5 if self.count(CALL) < CALLS => {
-                self.twin(functions);
+                functions.twin(self.random);
                 self.apply(functions);
             }
             6 => self.index(),
@@ -74,15 +74,6 @@ impl Builder<'_> {
                 self.relation();
             }
             _ => self.core_row(),
-        }
-    }
-
-    /// Sometimes adds a function that differs from another one in its number alone.
-    fn twin(&mut self, functions: &mut Vec<Function>) {
-        if functions.len() == 1 && self.random.once_in(2) {
-            let mut twin = functions[0].clone();
-            twin.number ^= 1;
-            functions.push(twin);
         }
     }
 

@@ -1,8 +1,9 @@
 //! What the lowerings and the triples of values of choices.rs are to show: a run that
 //! never met one of these has not tried the statement.
 
+use crate::callfeatures::{arguments, call_pairs};
 use crate::check::at;
-use crate::features::{arguments, call_pairs, reads};
+use crate::features::reads;
 use crate::open::{Found, Searched};
 use crate::openlowering::Lowering;
 use crate::tags::*;

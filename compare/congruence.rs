@@ -1,6 +1,7 @@
 //! The roots in restated.rs: the leading ones, then those of the pairs of reads
 //! and of calls.
 
+use crate::functions::Asked;
 use crate::ours::Answer;
 use crate::restated::{constant, Check};
 use crate::rules::answer;
@@ -51,10 +52,8 @@ impl Check<'_> {
         }
         let calls: Vec<&[u64]> = self.calls.chunks(4).collect();
         for (p, one) in calls.iter().enumerate() {
-            for other in calls[p + 1..]
-                .iter()
-                .filter(|o| o[1] == one[1] && o[3] == one[3])
-            {
+            let later = calls[p + 1..].iter();
+            for other in later.filter(|other| self.same_function(one, other, Asked::Root)) {
                 let of = |call: &[u64]| stretch(self.arguments, call[2], call[3]).unwrap_or(&[]);
                 let pairs = of(one).iter().zip(of(other)).map(|(&a, &b)| [a, b]);
                 due.push(([one[0], other[0]], pairs.collect()));

@@ -1,6 +1,7 @@
 //! What accepted lowerings are to show: a run that never met one of these has
 //! not looked at all of Check.
 
+use crate::callfeatures::{self, call_pairs};
 use crate::check::at;
 use crate::operation::{Feature, Lists};
 use crate::rules::{CEILING, SOURCE, TARGET};
@@ -12,19 +13,10 @@ const MAX: u64 = u64::MAX;
 /// Each with its name; the lists are those of an accepted lowering.
 pub fn features() -> Vec<Feature> {
     let mut features: Vec<Feature> = Vec::new();
-    for (name, has) in ROWS.into_iter().chain(READS).chain(CALLS) {
+    for (name, has) in ROWS.into_iter().chain(READS) {
         features.push((name.to_string(), Box::new(has)));
     }
-    for count in 0..=4 {
-        let name = format!("a Call of {count} arguments");
-        let has = move |lists: &Lists| mapped(lists, CALL).any(|(row, _)| row[4] == count);
-        features.push((name, Box::new(has)));
-    }
-    for count in 1..=4 {
-        let name = format!("a congruence root of calls of {count} arguments");
-        let has = move |lists: &Lists| call_pairs(lists).any(|(p, _)| p[3] == count);
-        features.push((name, Box::new(has)));
-    }
+    features.extend(callfeatures::features());
     for (tag, (name, _)) in (0..).zip(TAGS) {
         let image = move |lists: &Lists| mapped(lists, tag).next().is_some();
         features.push((format!("{name} with an image"), Box::new(image)));
@@ -35,7 +27,7 @@ pub fn features() -> Vec<Feature> {
     features
 }
 
-type Named = (&'static str, fn(&Lists) -> bool);
+pub type Named = (&'static str, fn(&Lists) -> bool);
 
 /// About rows, constants and roots.
 const ROWS: [Named; 10] = [
@@ -143,41 +135,8 @@ const READS: [Named; 18] = [
     }),
 ];
 
-/// About Calls and the call table.
-const CALLS: [Named; 7] = [
-    ("a Call of function MAX", |lists| {
-        mapped(lists, CALL).any(|(row, _)| row[1] == MAX)
-    }),
-    ("two Calls with one entry", |lists| {
-        let calls = mapping(lists).filter(|(row, image)| row[0] == CALL && *image != MAX);
-        repeats(&calls.map(|(_, image)| image).collect::<Vec<_>>())
-    }),
-    ("calls not in the order of their variables", |lists| {
-        calls(lists, |p, q| p[0] > q[0]).next().is_some()
-    }),
-    ("calls of one function number, of two counts", |lists| {
-        calls(lists, |p, q| p[1] == q[1] && p[3] != q[3])
-            .next()
-            .is_some()
-    }),
-    ("calls over one stretch of the arguments", |lists| {
-        let stretches = lists[at::CALLS]
-            .chunks_exact(4)
-            .map(|call| [call[2], call[3]]);
-        overlap(&stretches.collect::<Vec<_>>())
-    }),
-    ("a root for calls over unequal constants", |lists| {
-        let bits = |row: u64| bits(lists, at::TARGET, row);
-        let unequal = |[a, b]: [u64; 2]| matches!((bits(a), bits(b)), (Some(a), Some(b)) if a != b);
-        call_pairs(lists).any(|(p, q)| arguments(lists, p, q).any(unequal))
-    }),
-    ("a root for calls over a common argument", |lists| {
-        call_pairs(lists).any(|(p, q)| arguments(lists, p, q).any(|[a, b]| a == b))
-    }),
-];
-
 /// A row as it stands in its graph.
-type Words<'l> = &'l [u64];
+pub type Words<'l> = &'l [u64];
 
 fn graph_rows(lists: &Lists, graph: usize) -> std::slice::ChunksExact<'_, u64> {
     let size = if graph == at::SOURCE {
@@ -189,13 +148,13 @@ fn graph_rows(lists: &Lists, graph: usize) -> std::slice::ChunksExact<'_, u64> {
 }
 
 /// The source rows, each with its map word.
-fn mapping(lists: &Lists) -> impl Iterator<Item = (Words<'_>, u64)> + '_ {
+pub fn mapping(lists: &Lists) -> impl Iterator<Item = (Words<'_>, u64)> + '_ {
     let source = graph_rows(lists, at::SOURCE);
     source.zip(lists[at::MAP].iter().copied())
 }
 
 /// The source rows of one tag that have an image, each with it.
-fn mapped(lists: &Lists, tag: u64) -> impl Iterator<Item = (Words<'_>, Words<'_>)> + '_ {
+pub fn mapped(lists: &Lists, tag: u64) -> impl Iterator<Item = (Words<'_>, Words<'_>)> + '_ {
     mapping(lists)
         .filter(move |&(row, image)| row[0] == tag && image != MAX)
         .map(|(row, image)| (row, row_at(lists, at::TARGET, image)))
@@ -209,7 +168,7 @@ fn row_at(lists: &Lists, graph: usize, row: u64) -> Words<'_> {
 }
 
 /// The bits of a row of an accepted graph, if it is a constant.
-fn bits(lists: &Lists, graph: usize, row: u64) -> Option<Words<'_>> {
+pub fn bits(lists: &Lists, graph: usize, row: u64) -> Option<Words<'_>> {
     match row_at(lists, graph, row) {
         [CONST, start, width, ..] => stretch(&lists[graph + 1], *start, *width),
         _ => None,
@@ -227,14 +186,14 @@ fn variables(lists: &Lists) -> impl Iterator<Item = u64> + '_ {
     reads.map(|read| read[0]).chain(calls.map(|call| call[0]))
 }
 
-fn repeats<T: Ord + Clone>(items: &[T]) -> bool {
+pub fn repeats<T: Ord + Clone>(items: &[T]) -> bool {
     let mut sorted = items.to_vec();
     sorted.sort();
     sorted.windows(2).any(|two| two[0] == two[1])
 }
 
 /// Do two of these stretches, each a start and a length, have a place in common?
-fn overlap(stretches: &[[u64; 2]]) -> bool {
+pub fn overlap(stretches: &[[u64; 2]]) -> bool {
     let mut filled: Vec<&[u64; 2]> = stretches.iter().filter(|s| s[1] > 0).collect();
     filled.sort();
     filled
@@ -298,10 +257,10 @@ fn walks(lists: &Lists) -> impl Iterator<Item = Vec<Pair>> + '_ {
         })
 }
 
-type Entry<'l> = &'l [u64];
+pub type Entry<'l> = &'l [u64];
 
 /// The pairs of entries of a table, earlier before later, that pass a test.
-fn entries<'l>(
+pub fn entries<'l>(
     table: &'l [u64],
     size: usize,
     test: impl Fn(Entry, Entry) -> bool + Copy + 'l,
@@ -319,24 +278,6 @@ pub fn reads<'l>(
     test: impl Fn(Entry, Entry) -> bool + Copy + 'l,
 ) -> impl Iterator<Item = (Entry<'l>, Entry<'l>)> + 'l {
     entries(&lists[at::READS], 3, test)
-}
-
-fn calls<'l>(
-    lists: &'l Lists,
-    test: impl Fn(Entry, Entry) -> bool + Copy + 'l,
-) -> impl Iterator<Item = (Entry<'l>, Entry<'l>)> + 'l {
-    entries(&lists[at::CALLS], 4, test)
-}
-
-/// The pairs of calls that have a congruence root.
-pub fn call_pairs(lists: &Lists) -> impl Iterator<Item = (Entry<'_>, Entry<'_>)> + '_ {
-    calls(lists, |p, q| p[1] == q[1] && p[3] == q[3])
-}
-
-/// The arguments of two calls, pair by pair.
-pub fn arguments<'l>(lists: &'l Lists, p: Entry, q: Entry) -> impl Iterator<Item = [u64; 2]> + 'l {
-    let of = |call: Entry| stretch(&lists[at::ARGUMENTS], call[2], call[3]).unwrap_or(&[]);
-    of(p).iter().zip(of(q)).map(|(&a, &b)| [a, b])
 }
 
 /// The roots that neither the source roots nor the calls account for.

@@ -35,7 +35,7 @@ impl Writer<'_> {
         for p in 0..self.calls.len() {
             for q in p + 1..self.calls.len() {
                 let [one, other] = [&self.calls[p], &self.calls[q]];
-                if one.function == other.function && one.arguments.len() == other.arguments.len() {
+                if one.function == other.function {
                     let variables = [one.variable, other.variable];
                     let both = one.arguments.iter().zip(&other.arguments);
                     let arguments: Vec<[u64; 2]> = both.map(|(&a, &b)| [a, b]).collect();
@@ -119,7 +119,12 @@ impl Writer<'_> {
                     list.len() - count
                 }
             };
-            table.extend([call.variable, call.function, start as u64, count as u64]);
+            table.extend([
+                call.variable,
+                call.function.number,
+                start as u64,
+                count as u64,
+            ]);
         }
         [table, list]
     }

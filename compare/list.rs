@@ -75,7 +75,7 @@ const WANTED_VALUES: [(u64, usize); 9] = [
 ];
 
 /// How many random cases each answer of Check gets, beside those that are chosen.
-const WANTED_CHECK: usize = 14;
+const WANTED_CHECK: usize = 12;
 
 #[derive(Default)]
 struct List {

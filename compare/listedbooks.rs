@@ -4,6 +4,7 @@
 use crate::book::{self, Draft, CONTENTS, SECTIONS};
 use crate::ceilingcases;
 use crate::check::{at, CHECK};
+use crate::functioncases;
 use crate::marked;
 use crate::operation::{Lists, Operation};
 use crate::random::Random;
@@ -28,7 +29,7 @@ pub fn verdicts(random: &mut Random) -> Vec<Vec<u8>> {
     books.push(book::draft(&small()).bytes());
     let refused = marked::refused().into_iter().map(|(lists, _)| lists);
     let marked = marked::accepted().into_iter().chain(refused);
-    let known = marked.chain(at_ceiling());
+    let known = marked.chain(at_ceiling()).chain(told_apart());
     books.extend(known.map(|lists| book::draft(&lists).bytes()));
     books.extend((0..NUMBERS).map(|number| shortest(random, number)));
     books.retain(|book| book.len() <= BYTES);
@@ -41,6 +42,13 @@ fn at_ceiling() -> impl Iterator<Item = Lists> {
     cases
         .map(|(lists, _)| lists)
         .filter(|lists| lists[at::TARGET].len() == TARGET.row)
+}
+
+/// Calls told apart by their widths: one number without arguments, accepted, with its
+/// key again and with a root that is not due; over an argument each, with the root that
+/// is due and without it.
+fn told_apart() -> impl Iterator<Item = Lists> {
+    functioncases::small().into_iter().map(|(lists, _)| lists)
 }
 
 /// Books with the number of a section that is asked for.

@@ -5,6 +5,7 @@
 use crate::graphs::Builder;
 use crate::operation::Lists;
 use crate::random::Random;
+use crate::signatures::Function;
 use crate::sources;
 use crate::tags::*;
 
@@ -13,7 +14,7 @@ const MAX: u64 = u64::MAX;
 /// An entry of the call table with its arguments.
 pub struct Called {
     pub variable: u64,
-    pub function: u64,
+    pub function: Function,
     pub arguments: Vec<u64>,
 }
 
@@ -166,8 +167,15 @@ impl<'r> Writer<'r> {
             CONST => self.put_constant(row as u64),
             SELECT => self.lower_select(a, b, c, d),
             CALL => {
-                let arguments = self.uses(row).iter().map(|&r| self.image(r)).collect();
-                self.call_variable(a, b, arguments)
+                let uses = self.uses(row);
+                let widths = uses.iter().map(|&r| self.source.widths[r as usize]);
+                let function = Function {
+                    number: a,
+                    arguments: widths.collect(),
+                    result: b,
+                };
+                let arguments = uses.iter().map(|&r| self.image(r)).collect();
+                self.call_variable(function, arguments)
             }
             _ => {
                 let mapped = |(k, &field): (usize, &u64)| {
@@ -213,12 +221,12 @@ impl<'r> Writer<'r> {
     }
 
     /// The variable of this key in the call table, a new one if there is none.
-    fn call_variable(&mut self, function: u64, width: u64, arguments: Vec<u64>) -> u64 {
+    fn call_variable(&mut self, function: Function, arguments: Vec<u64>) -> u64 {
         let same = |call: &&Called| call.function == function && call.arguments == arguments;
         if let Some(call) = self.calls.iter().find(same) {
             return call.variable;
         }
-        let variable = self.variable(width);
+        let variable = self.variable(function.result);
         self.calls.push(Called {
             variable,
             function,

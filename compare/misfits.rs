@@ -23,7 +23,8 @@ fn some_entry(random: &mut Random, table: &[u64], size: usize) -> Option<Vec<u64
     (entries > 0).then(|| table[random.place(entries) * size..][..size].to_vec())
 }
 
-fn target_row(lists: &Lists, row: u64) -> Option<[u64; 4]> {
+/// The words of a target row, if there is one of this number.
+pub fn target_row(lists: &Lists, row: u64) -> Option<[u64; 4]> {
     let start = usize::try_from(row).ok()?.checked_mul(TARGET.row)?;
     let words = lists[at::TARGET].get(start..start.checked_add(TARGET.row)?)?;
     words.try_into().ok()

@@ -90,6 +90,10 @@ pub trait Operation: Sync {
     fn second(&self, _lists: &Lists) -> Option<Outcome> {
         None
     }
+    /// Does the rule that tells functions apart by their widths answer, not the Rust?
+    fn told_apart(&self, _lists: &Lists) -> bool {
+        false
+    }
     /// Cases for the shrinker to try beside those with parts dropped or words
     /// lowered: each has fewer rows that are no variables, or lower words.
     fn simpler(&self, _lists: &Lists) -> Vec<Lists> {

@@ -1,9 +1,10 @@
 //! Check once more, after the scope's text and without the published Rust: the
 //! answer, and what acceptance leaves in the four lent lists. It looks only
 //! where none of 15 to 18 applies. Widths are in wellformed.rs, roots in
-//! congruence.rs.
+//! congruence.rs, and what makes two calls one function is in functions.rs.
 
 use crate::check::at as place;
+use crate::functions::{Asked, Rule};
 use crate::operation::Lists;
 use crate::ours::Answer;
 use crate::rules::{answer, ACCEPTED, SOURCE, TARGET};
@@ -27,13 +28,22 @@ pub struct Check<'l> {
     pub target: Vec<Row>,
     pub target_bits: &'l [u64],
     pub target_roots: &'l [u64],
+    /// Of the rows of both graphs, once these are known to be well formed.
+    pub widths: [Vec<u64>; 2],
     /// Of target rows.
     pub classes: Vec<u64>,
     pub entries: Vec<u64>,
+    /// Which calls are of one function.
+    pub rule: Rule,
 }
 
 /// The answer, and the four lists where it is acceptance.
 pub fn check(lists: &Lists) -> (Answer, Written) {
+    check_by(Rule::Right, lists)
+}
+
+/// The same where a rule says which calls are of one function.
+pub fn check_by(rule: Rule, lists: &Lists) -> (Answer, Written) {
     let target = rows(&lists[place::TARGET], TARGET.row);
     let mut check = Check {
         source: rows(&lists[place::SOURCE], SOURCE.row),
@@ -44,30 +54,36 @@ pub fn check(lists: &Lists) -> (Answer, Written) {
         reads: &lists[place::READS],
         calls: &lists[place::CALLS],
         arguments: &lists[place::ARGUMENTS],
+        widths: Default::default(),
         classes: vec![0; target.len()],
         entries: vec![0; target.len()],
+        rule,
         target,
         target_bits: &lists[place::TARGET_BITS],
         target_roots: &lists[place::TARGET_ROOTS],
     };
     match check.judged() {
-        Ok([source, target]) => (ACCEPTED, [source, target, check.classes, check.entries]),
+        Ok(()) => {
+            let [source, target] = check.widths;
+            (ACCEPTED, [source, target, check.classes, check.entries])
+        }
         Err(refusal) => (refusal, Default::default()),
     }
 }
 
 impl Check<'_> {
-    /// Every refusal from 1 on in its order, else the widths of both graphs.
-    fn judged(&mut self) -> Result<[Vec<u64>; 2], Answer> {
+    /// Every refusal from 1 on in its order.
+    fn judged(&mut self) -> Result<(), Answer> {
         let source = row_widths(&self.source, self.source_bits.len(), self.side)
             .map_err(|row| answer(1, row, 0))?;
         let target = row_widths(&self.target, self.target_bits.len(), &[])
             .map_err(|row| answer(2, row, 0))?;
+        self.widths = [source, target];
         let (rows, words) = (self.source.len() as u64, self.map.len() as u64);
         if rows != words {
             return Err(answer(3, rows, words));
         }
-        self.read_table(&target)?;
+        self.read_table()?;
         self.call_table()?;
         for row in 0..rows {
             self.match_row(row)
@@ -76,12 +92,11 @@ impl Check<'_> {
         if let Some(dead) = self.classes.iter().position(|class| matches!(class, 2 | 3)) {
             return Err(answer(14, dead as u64, 0));
         }
-        self.roots()?;
-        Ok([source, target])
+        self.roots()
     }
 
     /// 5, and class 2 for the variables of reads.
-    fn read_table(&mut self, widths: &[u64]) -> Result<(), Answer> {
+    fn read_table(&mut self) -> Result<(), Answer> {
         for (k, entry) in self.reads.chunks(3).enumerate() {
             let &[variable, array, index] = entry else {
                 return Err(answer(5, k as u64, 0));
@@ -93,7 +108,7 @@ impl Check<'_> {
                 .any(|e| e[1..] == [array, index]);
             if at(&self.target, variable) != Some([VAR, 8, 0, 0, 0])
                 || at(&self.classes, variable) != Some(0)
-                || at(widths, index) != Some(32)
+                || at(&self.widths[1], index) != Some(32)
                 || again
             {
                 return Err(answer(5, k as u64, 0));
@@ -117,14 +132,16 @@ impl Check<'_> {
     }
 
     fn call_entry(&self, k: usize, entry: &[u64]) -> bool {
-        let &[variable, function, start, count] = entry else {
+        let &[variable, _, start, count] = entry else {
             return false;
         };
         let Some(arguments) = stretch(self.arguments, start, count) else {
             return false;
         };
-        let same =
-            |e: &[u64]| e[1] == function && stretch(self.arguments, e[2], e[3]) == Some(arguments);
+        let same = |e: &[u64]| {
+            stretch(self.arguments, e[2], e[3]) == Some(arguments)
+                && self.same_function(e, entry, Asked::Key)
+        };
         matches!(at(&self.target, variable), Some([VAR, ..]))
             && at(&self.classes, variable) == Some(0)
             && arguments.iter().all(|&row| row < self.target.len() as u64)

@@ -1,30 +1,23 @@
 //! Random sources for lowerings: rich in reads and calls, with indices that are
-//! constants, variables or computed from other reads.
+//! constants, variables or computed from other reads. Calls are in signatures.rs.
 
 use crate::graphs::{Builder, Style, HIGH};
 use crate::random::Random;
+use crate::signatures::Functions;
 use crate::tags::*;
-
-/// A function's argument widths and result width. Two calls of one function
-/// number and count must agree in them, or their congruence root has no widths.
-#[derive(Clone)]
-pub struct Function {
-    pub number: u64,
-    arguments: Vec<u64>,
-    result: u64,
-}
 
 /// A source of 0 to about `rows` rows, well formed.
 pub fn source(random: &mut Random, rows: usize) -> Builder<'_> {
     let style = random.pick(&[Style::Narrow, Style::Narrow, Style::Narrow, Style::Wide]);
     let rows = random.place(rows + 1);
     let mut builder = Builder::new(random, style, usize::MAX);
-    let mut functions = Vec::new();
+    let mut functions = Functions::new(builder.random);
     while builder.len() < rows {
         match builder.random.below(8) {
             0 | 1 => builder.read(),
             2 => builder.apply(&mut functions),
             3 => builder.index(),
+            4 if functions.apart => builder.apply(&mut functions),
             _ => builder.core_row(),
         }
     }
@@ -106,7 +99,7 @@ impl Builder<'_> {
     }
 
     /// A start for a count of 0: any word will do.
-    fn start_of_none(&mut self) -> u64 {
+    pub fn start_of_none(&mut self) -> u64 {
         let end = self.side.len() as u64;
         self.random.pick(&[0, 0, end, end + 1, u64::MAX])
     }
@@ -130,45 +123,5 @@ impl Builder<'_> {
         self.side.extend(pairs);
         self.chains.push((start, count));
         (start, count)
-    }
-
-    /// A Call, often of a function that was called before.
-    pub fn apply(&mut self, functions: &mut Vec<Function>) {
-        if functions.is_empty() || self.random.once_in(4) {
-            let function = self.function();
-            let known = |f: &Function| {
-                (f.number, f.arguments.len()) == (function.number, function.arguments.len())
-            };
-            if !functions.iter().any(known) {
-                functions.push(function);
-            }
-        }
-        let function = &functions[self.random.place(functions.len())];
-        let arguments: Vec<u64> = function.arguments.iter().map(|&w| self.row_of(w)).collect();
-        let count = arguments.len() as u64;
-        let start = if count == 0 {
-            self.start_of_none()
-        } else {
-            self.side.len() as u64
-        };
-        self.side.extend(arguments);
-        self.push(CALL, [function.number, function.result, start, count]);
-    }
-
-    fn function(&mut self) -> Function {
-        let count = self.random.pick(&[0, 1, 1, 2, 2, 3, 4]);
-        let arguments: &[u64] = match self.style {
-            Style::Small => &[1, 2, 2, 2, 3, 8],
-            _ => &[1, 8, 8, 32, 32],
-        };
-        Function {
-            number: self.random.pick(&[3, 3, 3, 5, u64::MAX]),
-            arguments: (0..count).map(|_| self.random.pick(arguments)).collect(),
-            result: match self.style {
-                Style::Wide => self.width(),
-                Style::Small => self.random.pick(&[1, 2, 2, 2, 3, 8]),
-                _ => self.random.pick(&[1, 8, 8, 32, 64]),
-            },
-        }
     }
 }

@@ -1,6 +1,7 @@
 //! One damage to the lists of a lowering: any of damage.rs, or one that leaves
 //! the graphs well formed and is met further on.
 
+use crate::callspoil;
 use crate::check::at;
 use crate::damage;
 use crate::extremes;
@@ -16,7 +17,7 @@ const MAX: u64 = u64::MAX;
 
 /// Damages the lists once; some damages find nothing to change.
 pub fn spoil(random: &mut Random, kinds: &[(&'static str, Kind)], lists: &mut Lists) {
-    match random.below(23) {
+    match random.below(26) {
         0 | 1 => damage::damage(random, kinds, lists),
         2 => bend_map(random, lists),
         3 => alias(random, lists),
@@ -36,6 +37,7 @@ pub fn spoil(random: &mut Random, kinds: &[(&'static str, Kind)], lists: &mut Li
         19 => misfits::surplus_root(random, lists),
         20 => misfits::nest_right(random, lists),
         21 => bend_constant(random, lists),
+        22..=24 => callspoil::spoil(random, lists),
         _ => widen::widen(random, kinds, lists),
     }
 }

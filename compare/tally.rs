@@ -1,7 +1,10 @@
 //! What a run has met so far: answers, tags, features, edge words, rows at the
-//! ceiling. It prints the counts and says whether anything that must come is missing.
+//! ceiling, functions told apart. It prints the counts and says whether anything that
+//! must come is missing.
 
 use crate::ceilingcounts::CeilingCounts;
+use crate::check::CHECK;
+use crate::functioncounts::FunctionCounts;
 use crate::operation::{Feature, Kind, Lists, Operation};
 use crate::ours::Answer;
 use crate::rules::ACCEPTED;
@@ -45,6 +48,8 @@ struct Counts {
     /// Cases that the second reference judged, and their rows.
     second: [u64; 2],
     ceiling: CeilingCounts,
+    /// In Check alone.
+    functions: Option<FunctionCounts>,
 }
 
 impl Tally {
@@ -69,7 +74,9 @@ impl Tally {
         counts.answers[answer.number as usize] += 1;
         counts.count_parts(answer);
         counts.count_high(lists);
-        counts.ceiling.count(lists, answer);
+        let functions = counts.functions.as_mut();
+        let told_apart = functions.is_some_and(|of| of.count(operation, lists, answer));
+        counts.ceiling.count(lists, answer, told_apart);
         if let (Kind::Rows(row), true) = (operation.lists()[0].1, operation.tags() > 0) {
             counts.count_tags(row, &lists[0], answer);
         }
@@ -102,6 +109,7 @@ impl Tally {
 impl Counts {
     fn new(operation: &'static dyn Operation) -> Counts {
         let fields = operation.lists().iter().map(|(_, kind)| kind.fields());
+        let calls = operation.number() == CHECK.number();
         Counts {
             operation,
             answers: [0; 32],
@@ -112,6 +120,7 @@ impl Counts {
             refused: [0; 64],
             second: [0; 2],
             ceiling: CeilingCounts::new(operation),
+            functions: calls.then(FunctionCounts::default),
         }
     }
 
@@ -157,6 +166,7 @@ impl Counts {
             println!("  answer {number:2} for {part}: {count:8}");
         }
         self.ceiling.print();
+        self.functions.iter().for_each(FunctionCounts::print);
         let least = |counts: &[u64]| counts.iter().min().copied().unwrap_or(0);
         let high = self.high.iter().flatten().copied().collect::<Vec<u64>>();
         println!(
@@ -201,7 +211,8 @@ impl Counts {
         for (count, (number, part)) in self.parts.iter().zip(self.operation.parts()) {
             due(*count, format!("the answer {number} for {part}"));
         }
-        for (count, what) in self.ceiling.due() {
+        let functions = self.functions.iter().flat_map(FunctionCounts::due);
+        for (count, what) in self.ceiling.due().into_iter().chain(functions) {
             due(count, what);
         }
         for tag in 0..self.operation.tags() {
