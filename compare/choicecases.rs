@@ -66,6 +66,9 @@ impl Builder<'_> {
             3..=5 if self.count(CALL) < CALLS => {
                 functions.twin(self.random);
                 self.apply(functions);
+                if functions.apart && self.count(CALL) < CALLS {
+                    self.apply(functions);
+                }
             }
             6 => self.index(),
             7 if self.count(SELECT) < READS => self.nested(),
@@ -82,8 +85,11 @@ impl Builder<'_> {
     fn roots(&mut self) -> Vec<u64> {
         let mut roots = Vec::new();
         let mut count = self.random.pick(&[0, 1, 1, 2, 2, 3, 4]);
-        if self.random.once_in(3) {
-            roots = self.apart();
+        if self.random.once_in(2) {
+            roots = match self.random.below(3) {
+                0 => self.each_call(),
+                _ => self.apart(),
+            };
             count = self.random.pick(&[0, 0, 1, 2]);
         }
         for _ in 0..count {
@@ -98,9 +104,23 @@ impl Builder<'_> {
         roots
     }
 
+    /// A new row that relates each call to another row of its width.
+    fn each_call(&mut self) -> Vec<u64> {
+        let calls = (0..).zip(&self.rows).filter(|(_, row)| row[0] == CALL);
+        let calls: Vec<u64> = calls.map(|(number, _)| number).collect();
+        calls
+            .into_iter()
+            .map(|call| self.relation_of(call))
+            .collect()
+    }
+
     /// A new row that relates a read or a call to another row of its width.
     fn relation(&mut self) -> u64 {
         let one = self.of_tags(&[SELECT, CALL]);
+        self.relation_of(one)
+    }
+
+    fn relation_of(&mut self, one: u64) -> u64 {
         let other = self.other_than(one);
         let tag = self.random.pick(&[EQ, EQ, EQ, NE, NE, ULT, SGE]);
         self.added(tag, [one, other, 0, 0])

@@ -1,7 +1,7 @@
 //! What the lowerings and the triples of values of choices.rs are to show: a run that
 //! never met one of these has not tried the statement.
 
-use crate::callfeatures::{arguments, call_pairs};
+use crate::callfeatures::{arguments, call_pairs, named_pairs};
 use crate::check::at;
 use crate::features::reads;
 use crate::open::{Found, Searched};
@@ -27,7 +27,7 @@ impl Tried<'_> {
 }
 
 /// Of lowerings.
-pub const LOWERINGS: [(&str, fn(&Lowering) -> bool); 13] = [
+pub const LOWERINGS: [(&str, fn(&Lowering) -> bool); 16] = [
     ("no source root", |of| of.roots.is_empty()),
     ("no root in either graph", |of| {
         of.lists[at::TARGET_ROOTS].is_empty()
@@ -63,7 +63,30 @@ pub const LOWERINGS: [(&str, fn(&Lowering) -> bool); 13] = [
     ("a read or a call below an argument", |of| {
         of.below_roots().any(|row| is_nested(of, row, CALL))
     }),
+    ("functions of one number told apart by the result", |of| {
+        told_apart(of, |one, other| one[0] != other[0])
+    }),
+    ("functions of one number told apart by arguments", |of| {
+        told_apart(of, |one, other| one[1..] != other[1..])
+    }),
+    ("the same, below roots both", |of| {
+        let below: Vec<usize> = of.below_roots().collect();
+        let called = |variable: u64| below.iter().any(|&row| of.lists[at::MAP][row] == variable);
+        named_pairs(&of.lists).any(|(p, q, is_one)| !is_one && called(p[0]) && called(q[0]))
+    }),
 ];
+
+/// Are there two calls of one number and count whose widths, the result's before the
+/// arguments', pass a test?
+fn told_apart(of: &Lowering, test: fn(&[usize], &[usize]) -> bool) -> bool {
+    let widths = |entry: &[u64]| -> Vec<usize> {
+        let arguments = &of.lists[at::ARGUMENTS][entry[2] as usize..][..entry[3] as usize];
+        let rows = entry[..1].iter().chain(arguments);
+        rows.map(|&row| of.target.shape.widths[row as usize])
+            .collect()
+    };
+    named_pairs(&of.lists).any(|(p, q, _)| test(&widths(p), &widths(q)))
+}
 
 /// Is the row of this tag, with a read or a call below its index or an argument?
 fn is_nested(of: &Lowering, row: usize, tag: u64) -> bool {
@@ -75,7 +98,7 @@ fn is_nested(of: &Lowering, row: usize, tag: u64) -> bool {
 }
 
 /// Of triples.
-pub const TRIPLES: [(&str, fn(&Tried) -> bool); 14] = [
+pub const TRIPLES: [(&str, fn(&Tried) -> bool); 15] = [
     ("open on both sides", |of| of.is(Found::Open)),
     ("open, after values were taken back", |of| {
         of.is(Found::Open) && of.source.back && of.target.back
@@ -111,6 +134,15 @@ pub const TRIPLES: [(&str, fn(&Tried) -> bool); 14] = [
         let alike = |[a, b]: [u64; 2]| of.target.alike(a, b);
         let mut pairs = call_pairs(lists);
         of.is(Found::Open) && pairs.any(|(p, q)| arguments(lists, p, q).all(alike))
+    }),
+    ("open, functions told apart at one key, two values", |of| {
+        let lists = &of.lowering.lists;
+        let alike = |[a, b]: [u64; 2]| of.target.alike(a, b);
+        let mut pairs = named_pairs(lists).filter(|(_, _, is_one)| !is_one);
+        let apart = |(p, q, _): (&[u64], &[u64], bool)| {
+            arguments(lists, p, q).all(alike) && of.target.unlike(p[0], q[0])
+        };
+        of.is(Found::Open) && pairs.any(apart)
     }),
     ("closed by congruence of reads alone", |of| of.but_for[0]),
     ("closed by congruence of calls alone", |of| of.but_for[1]),

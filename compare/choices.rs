@@ -7,6 +7,7 @@ use crate::choicecases;
 use crate::choicecounts::Counts;
 use crate::choicefeatures::Tried;
 use crate::choicevalues::{draw, redraw};
+use crate::functioncases;
 use crate::marked;
 use crate::open::Found;
 use crate::openlowering::{accepted, too_wide, Given, Lowering};
@@ -34,7 +35,8 @@ pub fn choices(seed: u64, cases: u64) -> bool {
         return false;
     }
     let mut counts = Counts::new();
-    let mut marked = (0..).zip(marked::accepted());
+    let accepted = marked::accepted().into_iter();
+    let mut marked = (0..).zip(accepted.chain(functioncases::to_change()));
     let good = marked.all(|(case, lists)| {
         let which = format!("marked lowering {case}");
         let mut random = Random::of_case(seed, case);

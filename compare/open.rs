@@ -51,6 +51,12 @@ impl Searched {
         let [one, other] = [one, other].map(|row| self.values[row as usize]);
         one.is_some() && one == other
     }
+
+    /// Have both rows values, and not the same?
+    pub fn unlike(&self, one: u64, other: u64) -> bool {
+        let [one, other] = [one, other].map(|row| self.values[row as usize]);
+        one.is_some() && other.is_some() && one != other
+    }
 }
 
 impl Plan {

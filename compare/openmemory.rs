@@ -3,6 +3,7 @@
 
 use crate::open::Meaning;
 use crate::openrows::{arguments, Graph};
+use crate::plain::ones;
 use crate::statement::Statement;
 use crate::tags::*;
 use crate::wellformed::Row;
@@ -17,7 +18,8 @@ enum Cell {
     /// Array and index.
     Byte(Symbol, u64),
     /// A function with its result width, and each argument's width and value: calls
-    /// of other counts or widths are of another function.
+    /// of other counts or widths are of another function. Wrong statements have 0 for
+    /// the widths.
     Result(Symbol, u64, Vec<(usize, u64)>),
 }
 
@@ -76,17 +78,27 @@ impl<'g> Interpretation<'g> {
         if words[0] == SELECT {
             return Cell::Byte(symbol, values[words[2] as usize]);
         }
-        let widths = &self.graph.shape.widths;
-        let argument = |row: u64| (widths[row as usize], values[row as usize]);
+        let argument = |row: u64| (self.argument_width(row), values[row as usize]);
         let arguments = arguments(words, self.side).map(argument).collect();
-        Cell::Result(symbol, words[2], arguments)
+        match self.statement {
+            Statement::AnyResult => Cell::Result(symbol, 0, arguments),
+            _ => Cell::Result(symbol, words[2], arguments),
+        }
     }
 
-    /// The value that was chosen for a row's cell.
+    fn argument_width(&self, row: u64) -> usize {
+        match self.statement {
+            Statement::AnyArguments => 0,
+            _ => self.graph.shape.widths[row as usize],
+        }
+    }
+
+    /// The value that was chosen for a row's cell; only wrong statements have to cut it
+    /// to the row's width.
     fn kept(&self, row: usize, values: &[u64]) -> Option<u64> {
         let cell = self.cell(row, values);
         let kept = self.cells.iter().find(|(kept, _)| *kept == cell);
-        kept.map(|&(_, value)| value)
+        kept.map(|&(_, value)| value & ones(self.graph.shape.widths[row]))
     }
 }
 

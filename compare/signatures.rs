@@ -119,11 +119,13 @@ impl Builder<'_> {
         function
     }
 
-    /// Any function; many arguments are as common as few where functions are told apart.
+    /// Any function. Where functions are told apart, many arguments are as common as
+    /// few, but not where all choices are to be tried.
     fn function(&mut self, apart: bool) -> Function {
-        let count = match apart {
-            true => self.random.pick(&[0, 1, 1, 2, 2, 3, 3, 4, 4]),
-            false => self.random.pick(&[0, 1, 1, 2, 2, 3, 4]),
+        let count = match (apart, self.style) {
+            (true, Style::Small) => self.random.pick(&[0, 1, 1, 1, 2, 2, 3]),
+            (true, _) => self.random.pick(&[0, 1, 1, 2, 2, 3, 3, 4, 4]),
+            (false, _) => self.random.pick(&[0, 1, 1, 2, 2, 3, 4]),
         };
         Function {
             number: self.random.pick(&[3, 3, 3, 5, 0, 0, u64::MAX]),

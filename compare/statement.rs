@@ -25,13 +25,15 @@ pub enum Statement {
     OwnResults,
     OneArray,
     OneFunction,
+    AnyResult,
+    AnyArguments,
     OldestFirst,
     CallsFixed,
     NotZero,
 }
 
 /// The wrong statements, each with what is wrong about it.
-pub const WRONG: [(Statement, &str); 11] = [
+pub const WRONG: [(Statement, &str); 13] = [
     (Statement::Exchanged, "two images with each other's values"),
     (Statement::RootLeftOut, "the last congruence root left out"),
     (Statement::NoReadRoots, "no congruence roots of reads"),
@@ -40,6 +42,14 @@ pub const WRONG: [(Statement, &str); 11] = [
     (Statement::OwnResults, "a result of its own for each Call"),
     (Statement::OneArray, "one array for all numbers"),
     (Statement::OneFunction, "one function for all numbers"),
+    (
+        Statement::AnyResult,
+        "one function for all widths of its result",
+    ),
+    (
+        Statement::AnyArguments,
+        "one function for all widths of its arguments",
+    ),
     (Statement::OldestFirst, "the last pair, not the first"),
     (
         Statement::CallsFixed,
