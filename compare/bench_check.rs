@@ -3,12 +3,14 @@
 use std::hint::black_box;
 
 use crate::check::at;
-use crate::large::{self, Index};
+use crate::functions::told_apart;
+use crate::large::{self, Apart, Index};
 use crate::operation::Lists;
 use crate::ours;
 use crate::race::{self, race, Per};
 use crate::random::Random;
 use crate::reference::{self, Sliver};
+use crate::renamed::renamed;
 use crate::rules::{SOURCE, TARGET};
 use crate::tags::NOT;
 
@@ -19,12 +21,13 @@ and lists built before; the four Vecs of widths, classes and entries are made an
 within its time. Ours gets words and bytes, and the four lent lists, one word a row, are
 allocated before the first round and hold what the round before left. It writes all four
 at each run, after a refusal with zeros, and it also looks for 16 and 17 in both graphs.
+Where functions of one number are told apart by widths, the Rust gets a number for each.
 ";
 
 type Make = fn(&mut Random, usize) -> Lists;
 
 /// Accepted lowerings: name, sizes, and the lowering of a size.
-const FAMILIES: [(&str, &[usize], Make); 18] = [
+const FAMILIES: [(&str, &[usize], Make); 20] = [
     (
         "core rows, all tags",
         &[25_000, 50_000, 100_000],
@@ -87,6 +90,16 @@ const FAMILIES: [(&str, &[usize], Make); 18] = [
     ("one read, one call, again", &[100_000], |_, n| {
         large::again(n)
     }),
+    (
+        "calls, one number, 64 result widths",
+        &[100, 200, 400],
+        |_, n| large::calls_apart(n, 64, Apart::Result),
+    ),
+    (
+        "the same, 64 last argument widths",
+        &[100, 200, 400],
+        |_, n| large::calls_apart(n, 64, Apart::LastArgument),
+    ),
 ];
 
 /// Lowerings with one change: the number that it brings, where, and the lists.
@@ -150,10 +163,12 @@ fn last(mut lists: Lists, list: usize, word: u64) -> Lists {
     lists
 }
 
-/// One lowering, with the number that is to come; the place is the Rust's.
+/// One lowering, with the number that is to come; the place is the Rust's. The Rust
+/// gets the functions renamed where it is no reference otherwise.
 fn case(name: &str, size: usize, mut lists: Lists, number: u64) -> bool {
-    let rust = Sliver::of(&lists);
-    let expected = reference::check(&lists);
+    let renamed = told_apart(&lists).then(|| renamed(&lists)).flatten();
+    let judged = renamed.as_ref().unwrap_or(&lists);
+    let (rust, expected) = (Sliver::of(judged), reference::check(judged));
     let mut bits = [at::SOURCE_BITS, at::TARGET_BITS]
         .map(|list| lists[list].iter().map(|&b| b as u8).collect::<Vec<u8>>());
     let rows = |list: usize, row: usize| lists[list].len() / row;

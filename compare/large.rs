@@ -168,14 +168,40 @@ pub fn calls(count: usize, functions: usize, arguments: usize) -> Lists {
         let list = &variables[k / functions..][..arguments];
         lowering.call(k % functions, list);
     }
-    for (p, q) in pairs(count, functions) {
-        let result = |k: usize| lowering.lists[at::CALLS][4 * k];
-        let list = |k: usize| -> Vec<u64> {
-            lowering.lists[at::ARGUMENTS][arguments * k..][..arguments].to_vec()
+    lowering.call_roots(count, functions, arguments);
+    lowering.lists
+}
+
+/// What tells the functions of one number apart.
+#[derive(Clone, Copy)]
+pub enum Apart {
+    Result,
+    LastArgument,
+}
+
+/// Calls of one number and three arguments, of so many functions in turn, told apart by
+/// one width, with the roots that are due. Each call of a function has other arguments.
+pub fn calls_apart(count: usize, functions: usize, by: Apart) -> Lists {
+    let mut lowering = Lowering::new();
+    let plain: Vec<Both> = (0..count.div_ceil(functions) + 2)
+        .map(|_| lowering.variable(WORD))
+        .collect();
+    let last: Vec<Both> = (0..functions)
+        .map(|k| lowering.variable(k as u64 + 1))
+        .collect();
+    for k in 0..count {
+        let (call, function) = (k / functions, k % functions);
+        let third = match by {
+            Apart::Result => plain[call + 2],
+            Apart::LastArgument => last[function],
         };
-        let (results, one, other) = ([result(p), result(q)], list(p), list(q));
-        lowering.congruence_root(results, &one, &other);
+        let result = match by {
+            Apart::Result => function as u64 + 1,
+            Apart::LastArgument => WORD,
+        };
+        lowering.call_of(0, result, &[plain[call], plain[call + 1], third]);
     }
+    lowering.call_roots(count, functions, 3);
     lowering.lists
 }
 
@@ -240,13 +266,27 @@ impl Lowering {
 
     /// A Call with its entry.
     fn call(&mut self, function: usize, arguments: &[Both]) {
+        self.call_of(function, WORD, arguments);
+    }
+
+    fn call_of(&mut self, function: usize, result: u64, arguments: &[Both]) {
         let (function, count) = (function as u64, arguments.len() as u64);
-        let variable = self.target([VAR, WORD, 0, 0]);
+        let variable = self.target([VAR, result, 0, 0]);
         let start = self.lists[at::SIDE].len() as u64;
         self.lists[at::SIDE].extend(arguments.iter().map(|both| both.row));
         self.lists[at::ARGUMENTS].extend(arguments.iter().map(|both| both.image));
         self.lists[at::CALLS].extend([variable, function, start, count]);
-        self.source([CALL, function, WORD, start, count], variable);
+        self.source([CALL, function, result, start, count], variable);
+    }
+
+    /// The roots of so many calls of these functions in turn, each over so many arguments.
+    fn call_roots(&mut self, count: usize, functions: usize, arguments: usize) {
+        for (p, q) in pairs(count, functions) {
+            let result = |k: usize| self.lists[at::CALLS][4 * k];
+            let list = |k: usize| self.lists[at::ARGUMENTS][arguments * k..][..arguments].to_vec();
+            let (results, one, other) = ([result(p), result(q)], list(p), list(q));
+            self.congruence_root(results, &one, &other);
+        }
     }
 
     fn congruence_root(&mut self, variables: [u64; 2], one: &[u64], other: &[u64]) {
