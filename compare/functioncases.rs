@@ -14,25 +14,31 @@ type Case = (Lists, Answer);
 /// The function number of most cases.
 const THREE: u64 = 3;
 
-/// The widths of a Call: its result's, then its arguments'.
-type Widths<'w> = &'w [u64];
-
 pub fn known() -> Vec<Case> {
-    let cases = [accepted(), repeated(), roots(), left_over()];
-    let lent = |(parts, answer)| (lend(parts), answer);
-    let others = cases.into_iter().flatten().map(lent);
+    let mut cases = vec![
+        (plain(0, &[1, 2]), ACCEPTED),
+        (plain(u64::MAX, &[8, 16, 32]), ACCEPTED),
+        (plain(THREE, &[8, 8]), answer(6, 1, 0)),
+    ];
+    (1..=4).for_each(|count| cases.extend(of_count(count)));
+    cases.extend(in_order());
+    cases.extend(left_over());
+    let others = cases
+        .into_iter()
+        .map(|(parts, answer)| (lend(parts), answer));
     small().into_iter().chain(others).collect()
 }
 
-/// Accepted ones of which every change is tried: without arguments, over one argument,
-/// told apart by the last of two, three calls of which two are of one function.
+/// Accepted ones of which every change is tried: without arguments, over the same
+/// argument, told apart by the last of two, and three calls of which two are of one
+/// function.
 pub fn to_change() -> Vec<Lists> {
     [
-        calls(THREE, &[&[8], &[16]]),
-        over_one_list(&[8, 16], &[8]),
-        calls(THREE, &[&[8, 8, 8], &[8, 8, 16]]),
+        plain(THREE, &[8, 16]),
+        over(THREE, &[8], &[&[8, 0], &[16, 0]]),
+        over(THREE, &[8, 16], &[&[8, 0, 0], &[8, 0, 1]]),
         rooted(over_each_other(), &[(0, 2)]),
-        rooted(calls(THREE, &[&[8, 8], &[8, 16], &[8, 8]]), &[(0, 2)]),
+        rooted(three(1), &[(0, 2)]),
     ]
     .map(lend)
     .into()
@@ -42,12 +48,10 @@ pub fn to_change() -> Vec<Lists> {
 /// again, with a root that is not due, and unreached; over an argument each, with the
 /// root that is due and without it.
 pub fn small() -> Vec<Case> {
-    let two = || calls(THREE, &[&[8], &[16]]);
-    let three = calls(THREE, &[&[8], &[16], &[8]]);
     let cases = [
-        (two(), ACCEPTED),
-        (three, answer(6, 2, 0)),
-        (with_root(two(), 0), answer(12, 0, 0)),
+        (plain(THREE, &[8, 16]), ACCEPTED),
+        (plain(THREE, &[8, 16, 8]), answer(6, 2, 0)),
+        (with_root(plain(THREE, &[8, 16]), 0), answer(12, 0, 0)),
         (unreached(), answer(14, 0, 0)),
         (rooted(over_each_other(), &[(0, 2)]), ACCEPTED),
         (over_each_other(), answer(13, 0, 0)),
@@ -55,55 +59,66 @@ pub fn small() -> Vec<Case> {
     cases.map(|(parts, answer)| (lend(parts), answer)).into()
 }
 
-/// Var(8), Var(16), and Call(3,8) over the first, over the second and over the first
-/// Call: the first and the last Call are of one function.
-fn over_each_other() -> Parts {
-    let call = |start| [CALL, THREE, 8, start, 1];
-    let variables = [8, 16, 8, 8, 8].map(|width| [VAR, width, 0, 0]);
-    Parts {
-        source: vec![
-            [VAR, 8, 0, 0, 0],
-            [VAR, 16, 0, 0, 0],
-            call(0),
-            call(1),
-            call(2),
-        ],
-        side: vec![0, 1, 2],
-        map: (0..5).collect(),
-        calls: (0..3).map(|k| [k + 2, THREE, k, 1]).collect(),
-        arguments: vec![0, 1, 2],
-        target: variables.into(),
-        ..Parts::default()
-    }
-}
-
-/// No root is due, or the one that is stands there.
-fn accepted() -> Vec<(Parts, Answer)> {
+/// Calls of so many arguments, which are more than none.
+fn of_count(count: usize) -> Vec<(Parts, Answer)> {
+    let same = |result: u64| [vec![result], vec![0; count]].concat();
+    let results = |widths: &[u64]| {
+        let calls: Vec<Vec<u64>> = widths.iter().map(|&width| same(width)).collect();
+        over(THREE, &[8], &slices(&calls))
+    };
+    let by_argument = |argument: usize| {
+        let mut other = same(8);
+        other[argument] = 1;
+        over(THREE, &[8, 16], &[&same(8), &other])
+    };
     let mut cases = vec![
-        calls(0, &[&[1], &[2]]),
-        calls(u64::MAX, &[&[8], &[16], &[32]]),
-        calls(THREE, &[&[8, 8], &[8, 16]]),
-        calls(THREE, &[&[8, 8, 8], &[8, 16, 8]]),
-        calls(THREE, &[&[8, 8, 8], &[8, 8, 16]]),
-        calls(THREE, &[&[8, 8, 8, 8], &[8, 8, 16, 8]]),
-        calls(THREE, &[&[1, 8, 8, 8, 8], &[1, 8, 8, 8, 16]]),
-        rooted(calls(THREE, &[&[8, 8], &[8, 16], &[8, 8]]), &[(0, 2)]),
-        rooted(alternating(), &[(0, 2), (1, 3)]),
-        rooted(behind_a_root(), &[(0, 2)]),
-        rooted(over_constants(), &[(0, 1)]),
+        (results(&[8, 16]), ACCEPTED),
+        (results(&[8, 16, 8]), answer(6, 2, 0)),
+        (three(count), answer(13, 0, 0)),
+        (rooted(three(count), &[(0, 2)]), ACCEPTED),
     ];
-    let same_rows = (1..=4).map(|count| over_one_list(&[8, 16], &[8, 1, 8, 32][..count]));
-    cases.extend(same_rows);
-    cases.into_iter().map(|parts| (parts, ACCEPTED)).collect()
+    cases.extend((1..=count).map(|argument| (by_argument(argument), ACCEPTED)));
+    cases
 }
 
-/// A key that comes again, also beside one that differs in the result's width alone.
-fn repeated() -> Vec<(Parts, Answer)> {
+/// Three calls of so many arguments, the last of which are of 8, 16 and 8 bits.
+fn three(count: usize) -> Parts {
+    let call = |last: u64| [vec![8], vec![0; count - 1], vec![last]].concat();
+    over(THREE, &[8, 16, 8], &slices(&[0, 1, 2].map(call)))
+}
+
+/// Roots in their order, behind a leading one too; or one missing, or at the place of
+/// another.
+fn in_order() -> Vec<(Parts, Answer)> {
+    let turns = || over(0, &[8, 16, 8, 16], &[&[1, 0], &[1, 1], &[1, 2], &[1, 3]]);
+    let behind_a_root = || {
+        let mut parts = over(0, &[8, 8], &[&[8, 0], &[16, 0], &[8, 1]]);
+        parts.source_roots = vec![0];
+        with_root(parts, 0)
+    };
     vec![
-        (calls(THREE, &[&[8], &[8]]), answer(6, 1, 0)),
-        (over_one_list(&[8, 16, 16], &[8]), answer(6, 2, 0)),
-        (over_one_list(&[8, 16, 8], &[8, 1, 8]), answer(6, 2, 0)),
+        (rooted(turns(), &[(0, 2), (1, 3)]), ACCEPTED),
+        (rooted(turns(), &[(0, 2)]), answer(13, 1, 0)),
+        (rooted(turns(), &[(1, 3), (0, 2)]), answer(13, 0, 0)),
+        (rooted(behind_a_root(), &[(0, 2)]), ACCEPTED),
+        (behind_a_root(), answer(13, 1, 0)),
+        (rooted(over_constants(), &[(0, 1)]), ACCEPTED),
+        (rooted(three(1), &[(2, 0)]), answer(13, 0, 0)),
+        (rooted(three(1), &[(0, 1), (0, 2)]), answer(13, 0, 0)),
     ]
+}
+
+/// Roots that are not due, behind all that are.
+fn left_over() -> Vec<(Parts, Answer)> {
+    let by_last = over(THREE, &[8, 16], &[&[8, 0, 0], &[8, 0, 1]]);
+    let by_result = over(THREE, &[8], &[&[8, 0], &[16, 0]]);
+    let cases = [
+        rooted(by_last, &[(0, 1)]),
+        rooted(by_result, &[(0, 1)]),
+        rooted(over_each_other(), &[(0, 2), (0, 2)]),
+        rooted(three(1), &[(0, 2), (1, 2)]),
+    ];
+    cases.map(|parts| (parts, answer(12, 0, 0))).into()
 }
 
 /// Two entries that nothing reaches: the smallest table that the rule tells apart.
@@ -115,86 +130,46 @@ fn unreached() -> Parts {
     }
 }
 
-/// Roots that are missing, or stand at the place of another.
-fn roots() -> Vec<(Parts, Answer)> {
-    let three = || calls(THREE, &[&[8, 8], &[8, 16], &[8, 8]]);
-    vec![
-        (three(), answer(13, 0, 0)),
-        (rooted(three(), &[(2, 0)]), answer(13, 0, 0)),
-        (rooted(three(), &[(0, 1), (0, 2)]), answer(13, 0, 0)),
-        (rooted(alternating(), &[(0, 2)]), answer(13, 1, 0)),
-        (rooted(alternating(), &[(1, 3), (0, 2)]), answer(13, 0, 0)),
-        (behind_a_root(), answer(13, 1, 0)),
-    ]
-}
-
-/// Roots that are not due, behind all that are.
-fn left_over() -> Vec<(Parts, Answer)> {
-    let by_last = [&[8, 8, 8][..], &[8, 8, 16]];
-    let cases = [
-        rooted(calls(THREE, &by_last), &[(0, 1)]),
-        rooted(over_each_other(), &[(0, 2), (0, 2)]),
-        rooted(over_one_list(&[8, 16], &[8]), &[(0, 1)]),
-    ];
-    cases.map(|parts| (parts, answer(12, 0, 0))).into()
-}
-
-/// Four Calls of two functions in turn.
-fn alternating() -> Parts {
-    calls(0, &[&[1, 8], &[1, 16], &[1, 8], &[1, 16]])
-}
-
-/// Three Calls, the first and the last of one function, and a leading root.
-fn behind_a_root() -> Parts {
-    let mut parts = with_root(calls(0, &[&[8, 8], &[16, 8], &[8, 8]]), 0);
-    parts.source_roots = vec![0];
-    parts
+/// A call over a variable of 8 bits, one over a variable of 16, and one over the first
+/// call: the first and the last are of one function.
+fn over_each_other() -> Parts {
+    over(THREE, &[8, 16], &[&[8, 0], &[8, 1], &[8, 2]])
 }
 
 /// Calls over 1, 0 and a 0 of two bits: unequal constants need a root, those of unequal
 /// widths none.
 fn over_constants() -> Parts {
-    let mut parts = Parts::default();
-    for (start, width) in [(0, 1), (1, 1), (1, 2)] {
-        put(
-            &mut parts,
-            [CONST, start, width, 0, 0],
-            [CONST, start, width, 0],
-        );
+    let bits = vec![1, 0, 0];
+    let mut parts = Parts {
+        source_bits: bits.clone(),
+        target_bits: bits,
+        ..Parts::default()
+    };
+    for [start, width] in [[0, 1], [1, 1], [1, 2]] {
+        let image = [CONST, start, width, 0];
+        put(&mut parts, [CONST, start, width, 0, 0], image);
     }
-    (0..3).for_each(|row| call(&mut parts, THREE, 8, &[row]));
-    parts.source_bits = vec![1, 0, 0];
-    parts.target_bits = vec![1, 0, 0];
+    (0..3).for_each(|row| call(&mut parts, THREE, &[8, row]));
     parts
 }
 
-/// A Call for each of these widths, over variables of its own.
-fn calls(number: u64, widths: &[Widths]) -> Parts {
-    let mut parts = Parts::default();
-    let stretches: Vec<Vec<u64>> = (widths.iter())
-        .map(|widths| {
-            widths[1..]
-                .iter()
-                .map(|&width| variable(&mut parts, width))
-                .collect()
-        })
-        .collect();
-    for (widths, rows) in widths.iter().zip(&stretches) {
-        call(&mut parts, number, widths[0], rows);
-    }
-    parts
+/// A call without arguments for each of these result widths.
+fn plain(number: u64, results: &[u64]) -> Parts {
+    let calls: Vec<Vec<u64>> = results.iter().map(|&width| vec![width]).collect();
+    over(number, &[], &slices(&calls))
 }
 
-/// A Call for each of these result widths, all over the same variables.
-fn over_one_list(results: &[u64], arguments: &[u64]) -> Parts {
+fn slices(lists: &[Vec<u64>]) -> Vec<&[u64]> {
+    lists.iter().map(|list| &list[..]).collect()
+}
+
+/// Variables of these widths, then calls: of each its result width, then its arguments.
+fn over(number: u64, variables: &[u64], calls: &[&[u64]]) -> Parts {
     let mut parts = Parts::default();
-    let rows: Vec<u64> = arguments
-        .iter()
-        .map(|&width| variable(&mut parts, width))
-        .collect();
-    for &result in results {
-        call(&mut parts, THREE, result, &rows);
+    for &width in variables {
+        put(&mut parts, [VAR, width, 0, 0, 0], [VAR, width, 0, 0]);
     }
+    calls.iter().for_each(|of| call(&mut parts, number, of));
     parts
 }
 
@@ -207,11 +182,8 @@ fn put(parts: &mut Parts, row: [u64; 5], image: [u64; 4]) -> u64 {
     number
 }
 
-fn variable(parts: &mut Parts, width: u64) -> u64 {
-    put(parts, [VAR, width, 0, 0, 0], [VAR, width, 0, 0])
-}
-
-fn call(parts: &mut Parts, number: u64, width: u64, rows: &[u64]) {
+fn call(parts: &mut Parts, number: u64, of: &[u64]) {
+    let (width, rows) = (of[0], &of[1..]);
     let (start, count) = (parts.side.len() as u64, rows.len() as u64);
     let row = [CALL, number, width, start, count];
     let variable = put(parts, row, [VAR, width, 0, 0]);

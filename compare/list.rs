@@ -6,9 +6,11 @@ use std::collections::BTreeSet;
 
 use crate::book;
 use crate::check::{self, CHECK};
+use crate::functioncounts;
 use crate::graphs::{Builder, Style};
 use crate::listed;
 use crate::listedbooks;
+use crate::listline::{bytes, line, words_line};
 use crate::operation::{Kind, Lists, Operation, Outcome, OPERATIONS};
 use crate::ours::Answer;
 use crate::random::Random;
@@ -74,8 +76,10 @@ const WANTED_VALUES: [(u64, usize); 9] = [
     (23, 12),
 ];
 
-/// How many random cases each answer of Check gets, beside those that are chosen.
-const WANTED_CHECK: usize = 12;
+/// How many random cases each answer of Check gets, beside those that are chosen, and
+/// how many more where functions are told apart.
+const WANTED_CHECK: usize = 10;
+const WANTED_APART: usize = 2;
 
 #[derive(Default)]
 struct List {
@@ -101,7 +105,7 @@ pub fn list(seed: u64) -> bool {
     for operation in [&SOURCE_WIDTHS as &dyn Operation, &TARGET_WIDTHS, &ROOTS] {
         for (number, count) in WANTED {
             if operation.answers().contains(&number) {
-                some(&mut random, operation, number, count, &mut list);
+                some(&mut random, operation, number, count, &mut list, any);
             }
         }
     }
@@ -110,11 +114,15 @@ pub fn list(seed: u64) -> bool {
         .all(|lists| list.add(&VALUES, lists, LONG));
     good &= list.add_known(&VALUES);
     for (number, count) in WANTED_VALUES {
-        some(&mut random, &VALUES, number, count, &mut list);
+        some(&mut random, &VALUES, number, count, &mut list, any);
     }
     good &= list.add_known(&CHECK);
     for &number in CHECK.answers() {
-        some(&mut random, &CHECK, number, WANTED_CHECK, &mut list);
+        some(&mut random, &CHECK, number, WANTED_CHECK, &mut list, any);
+    }
+    let apart = |lists: &Lists| CHECK.told_apart(lists);
+    for number in functioncounts::DUE {
+        some(&mut random, &CHECK, number, WANTED_APART, &mut list, apart);
     }
     good &= showing_features(&mut random, &mut list);
     good &= showing_edges(&mut random, &mut list);
@@ -149,21 +157,27 @@ fn edges() -> [Lists; 2] {
     })
 }
 
-/// So many random cases that answer this number.
+/// So many random cases that answer this number and pass a test.
 fn some(
     random: &mut Random,
     operation: &dyn Operation,
     number: u64,
     count: usize,
     list: &mut List,
+    test: fn(&Lists) -> bool,
 ) {
     let mut left = count;
     while left > 0 {
         let lists = operation.generate(random, SHORT.rows);
-        if operation.expected(&lists).answer.number == number && list.add(operation, lists, SHORT) {
+        let answers = operation.expected(&lists).answer.number == number;
+        if answers && test(&lists) && list.add(operation, lists, SHORT) {
             left -= 1;
         }
     }
+}
+
+fn any(_lists: &Lists) -> bool {
+    true
 }
 
 /// For each feature of accepted lowerings a case that shows it, if there is none yet.
@@ -344,36 +358,4 @@ fn by_place(answer: Answer) -> u64 {
     } else {
         0
     }
-}
-
-fn bytes(book: &[u8]) -> Vec<u64> {
-    book.iter().map(|&byte| u64::from(byte)).collect()
-}
-
-/// A case with its outcome.
-fn line(operation: &dyn Operation, lists: &Lists, outcome: &Outcome) -> String {
-    let kinds = operation.lists().iter();
-    let lent: Lists = kinds
-        .zip(&outcome.lists)
-        .filter(|((_, kind), _)| matches!(kind, Kind::Lent(_)))
-        .map(|(_, list)| list.clone())
-        .collect();
-    words_line(operation.number(), lists, outcome.answer, &lent)
-}
-
-/// Operation, its lists, the answer, and the lent lists after the call.
-fn words_line(operation: u64, lists: &[Vec<u64>], answer: Answer, lent: &[Vec<u64>]) -> String {
-    let mut words = vec![operation, lists.len() as u64];
-    lists.iter().for_each(|list| push_list(&mut words, list));
-    words.extend([answer.number, answer.place, answer.detail]);
-    words.push(lent.len() as u64);
-    lent.iter().for_each(|list| push_list(&mut words, list));
-    let shown: Vec<String> = words.iter().map(|word| format!("{word:x}")).collect();
-    shown.join(" ")
-}
-
-/// A list as its length and its words.
-fn push_list(words: &mut Vec<u64>, list: &[u64]) {
-    words.push(list.len() as u64);
-    words.extend(list);
 }

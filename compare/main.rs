@@ -40,6 +40,7 @@ mod large;
 mod list;
 mod listed;
 mod listedbooks;
+mod listline;
 mod lowering;
 mod marked;
 mod misfits;

@@ -5,7 +5,9 @@ use std::time::Instant;
 /// How often each side runs, after a first run that is not timed; GILFRUNT_ROUNDS, if set.
 fn rounds() -> usize {
     let given = std::env::var("GILFRUNT_ROUNDS").ok();
-    given.and_then(|word| word.parse().ok()).map_or(25, |rounds: usize| rounds.max(1))
+    given
+        .and_then(|word| word.parse().ok())
+        .map_or(25, |rounds: usize| rounds.max(1))
 }
 
 /// What a time is given for.
