@@ -69,7 +69,7 @@ pub const LOWERINGS: [(&str, fn(&Lowering) -> bool); 16] = [
     ("functions of one number told apart by arguments", |of| {
         told_apart(of, |one, other| one[1..] != other[1..])
     }),
-    ("the same, below roots both", |of| {
+    ("functions told apart, both below roots", |of| {
         let below: Vec<usize> = of.below_roots().collect();
         let called = |variable: u64| below.iter().any(|&row| of.lists[at::MAP][row] == variable);
         named_pairs(&of.lists).any(|(p, q, is_one)| !is_one && called(p[0]) && called(q[0]))
