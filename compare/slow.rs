@@ -1,5 +1,6 @@
 //! Times of the program `verdict` on the books that cost it most: some shapes
-//! at the full length of a book, each with the time of the Rust on its lists.
+//! at the full length of a book, each with the time of the Rust on its lists, the
+//! functions renamed where they are told apart by widths.
 
 use std::hint::black_box;
 use std::time::Instant;
@@ -7,8 +8,10 @@ use std::time::Instant;
 use crate::book::{self, CONTENTS, LONGEST};
 use crate::books;
 use crate::check::at;
+use crate::functions::told_apart;
 use crate::operation::Lists;
 use crate::reference;
+use crate::renamed::renamed;
 use crate::tags::*;
 
 const MAX: u64 = u64::MAX;
@@ -24,7 +27,9 @@ pub fn slow(program: &str) -> bool {
     println!("then the Rust on the book's lists, with the making of its nodes");
     [
         ("no input", None),
-        ("calls whose arguments differ late", Some(late_arguments())),
+        ("calls whose arguments differ late", Some(late_arguments(8))),
+        ("the same, in their widths", Some(late_arguments(16))),
+        ("calls whose results alone differ", Some(many_results())),
         ("Selects past unequal constants", Some(passed_over())),
         ("Selects through Ites", Some(through_ites())),
         ("Calls of one long argument list", Some(long_calls())),
@@ -41,7 +46,10 @@ fn timed(program: &str, name: &str, lists: Option<Lists>) -> bool {
     let ours = least(|| good &= books::ask(program, &input, None).is_ok_and(|it| it == line));
     let rust = match book::shape(&input) {
         book::Shape::Good => {
-            let lists = book::held(&input);
+            let mut lists = book::held(&input);
+            if told_apart(&lists) {
+                lists = renamed(&lists).unwrap_or(lists);
+            }
             least(|| _ = black_box(reference::check(black_box(&lists))))
         }
         _ => 0.0,
@@ -70,16 +78,32 @@ fn no_lists() -> Lists {
 }
 
 /// Call entries of one function whose stretches of the argument list overlap.
-/// All words there are 0 but one, so that two of them agree until late; the
-/// search for the same key compares each pair.
-fn late_arguments() -> Lists {
+/// All words there are 0 but one, which is of this width, so that two of them agree
+/// until late; the search for the same key compares each pair.
+fn late_arguments(width: u64) -> Lists {
     let calls = 560;
     let arguments = WORDS - 9 * calls - 8;
     let mut lists = no_lists();
     lists[at::ARGUMENTS] = vec![0; arguments + calls - 1];
     lists[at::ARGUMENTS][arguments - 1] = 1;
     lists[at::TARGET] = [VAR, 8, 0, 0].repeat(calls + 2);
+    lists[at::TARGET][5] = width;
     let entry = |k| [k + 2, 3, k, arguments as u64];
+    lists[at::CALLS] = (0..calls as u64).flat_map(entry).collect();
+    lists
+}
+
+/// Call entries of one number over the same arguments, each of a result width of its
+/// own.
+fn many_results() -> Lists {
+    let calls = 680;
+    let arguments = WORDS - 8 * calls - 4;
+    let mut lists = no_lists();
+    lists[at::ARGUMENTS] = vec![0; arguments];
+    lists[at::TARGET] = (0..=calls as u64)
+        .flat_map(|k| [VAR, k + 1, 0, 0])
+        .collect();
+    let entry = |k| [k + 1, 3, 0, arguments as u64];
     lists[at::CALLS] = (0..calls as u64).flat_map(entry).collect();
     lists
 }
