@@ -1,4 +1,4 @@
--- A congruence root that stands is of two calls of one function: an Eq row takes operands of one width. Assumes nothing.
+-- Two calls whose congruence root stands have arguments of the same widths: an Eq row takes operands of one width. Assumes nothing.
 use Prim.Native.Nat.{ℕ, zero, suc, _-_, _<_, _≤_}
 use mathlib.Core.Path.{_≡_, sym}
 use mathlib.Core.Bool.{true}
@@ -10,7 +10,7 @@ use borrow.Author.Tests.{eq-eqb, ltb-true}
 use lib.ListN.{getD}
 use Rattle.lists.specs.Tests.{all, agree}
 use Rattle.lists.proofs.Tests.{all-true, agree-yes}
-use Rattle.lowering.specs.Tables.{callFunction, argCount, callArg, callVar, argWidth, sameFunction}
+use Rattle.lowering.specs.Tables.{callFunction, argCount, resultWidth, argWidth, sameFunction}
 use Rattle.lowering.specs.Roots.{pair, allEqual, congruent, callRoot, rootAt}
 use Rattle.congruence.specs.Calls.{EqsEven}
 
@@ -23,26 +23,24 @@ module _ (target ws : List ℕ) (even : EqsEven target ws) where
       let (_, (_, (last, (rest, _)))) = all-true _ e in
       ⊎-elim (λ z. rw z (even (xs (suc n)) (ys (suc n)) _ last)) (λ b. nest-even xs ys n _ rest l (omega arith)) (eq-or-lt-of-le h)
 
-  -- the two variables, and the k rows on either side
-  congruent-even : (xs ys : ℕ → ℕ) (k u v r : ℕ) → congruent target xs ys k u v r ≡ true
-      → (getD ws u 0 ≡ getD ws v 0) × ((l : ℕ) → l < k → getD ws (xs l) 0 ≡ getD ws (ys l) 0)
+  -- the k rows on either side of a congruence root
+  congruent-even : (xs ys : ℕ → ℕ) (k u v r : ℕ) → congruent target xs ys k u v r ≡ true → (l : ℕ) → l < k → getD ws (xs l) 0 ≡ getD ws (ys l) 0
   unfolding congruent
-  congruent-even xs ys k u v r e =
-      let (p, (_, (_, (variables, (_, (_, (rows, _))))))) = all-true _ e in
+  congruent-even xs ys k u v r e l h =
+      let (p, (_, (_, (_, (_, (_, (rows, _))))))) = all-true _ e in
       let pos = ltb-true 0 k p in
-      (even u v _ variables, λ l h. nest-even xs ys (k - 1) _ rows l (omega arith))
+      nest-even xs ys (k - 1) _ rows l (omega arith)
 
-  -- entries of one number and count whose root stands
-  root-congruent : (calls cargs troots : List ℕ) (k l q : ℕ) → rootAt troots (callRoot calls cargs target) q (pair k l) ≡ true
-      → congruent target (callArg calls cargs k) (callArg calls cargs l) (argCount calls k) (callVar calls k) (callVar calls l) (getD troots q 0) ≡ true
-  unfolding rootAt
-  root-congruent calls cargs troots k l q e = let (_, (root, _)) = all-true _ e in root
+  -- entries of one number, count and result whose root stands
+  module _ (calls cargs troots : List ℕ) (k l q : ℕ) (stands : rootAt troots (callRoot calls cargs target) q (pair k l) ≡ true) where
+    arguments-even : (x : ℕ) → x < argCount calls k → argWidth calls cargs ws k x ≡ argWidth calls cargs ws l x
+    unfolding rootAt
+    arguments-even = let (_, (root, _)) = all-true _ stands in congruent-even _ _ _ _ _ _ root
 
-  pub one-function : (calls cargs troots : List ℕ) (k l q : ℕ) → callFunction calls k ≡ callFunction calls l → argCount calls k ≡ argCount calls l
-      → rootAt troots (callRoot calls cargs target) q (pair k l) ≡ true → sameFunction calls cargs ws k l ≡ true
-  unfolding sameFunction all
-  one-function calls cargs troots k l q f n e =
-      let (result, arguments) = congruent-even _ _ _ _ _ _ (root-congruent calls cargs troots k l q e) in
-      let below : (x : ℕ) → x < argCount calls l → x < argCount calls k = λ x h. omega (arith, n) in
-      let widths = agree-yes (argWidth calls cargs ws k) (argWidth calls cargs ws l) (argCount calls l) (λ x h. arguments x (below x h)) in
-      rw (eq-eqb _ _ f, eq-eqb _ _ n, eq-eqb _ _ result, widths)
+    pub one-function : callFunction calls k ≡ callFunction calls l → argCount calls k ≡ argCount calls l
+        → resultWidth calls ws k ≡ resultWidth calls ws l → sameFunction calls cargs ws k l ≡ true
+    unfolding sameFunction all
+    one-function f n w =
+        let below : (x : ℕ) → x < argCount calls l → x < argCount calls k = λ x h. omega (arith, n) in
+        let widths = agree-yes (argWidth calls cargs ws k) (argWidth calls cargs ws l) (argCount calls l) (λ x h. arguments-even x (below x h)) in
+        rw (eq-eqb _ _ f, eq-eqb _ _ n, eq-eqb _ _ w, widths)

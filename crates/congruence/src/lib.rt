@@ -66,8 +66,8 @@ fn call_stands(
     ante_ok(target, cargs, sp as usize, sq as usize, k as usize, a)
 }
 
-// The pairs of entry k with later ones; their roots stand from idx0 on. A root that stands says that the pair is of one function, since Eq takes
-// operands of one width; so the widths are compared only where none stands.
+// The pairs of entry k with later ones; their roots stand from idx0 on. A root that stands says that the arguments have the same widths, since Eq
+// takes operands of one width; so these are compared only where none stands.
 fn uf_cong_for(
     calls: &[u64],
     cargs: &[u64],
@@ -90,11 +90,12 @@ fn uf_cong_for(
     let fid = calls[at + 1];
     let sp = calls[at + 2];
     let count = calls[at + 3];
+    let width = keys::width_at(ws, vp);
     let mut idx = idx0;
     let mut l = k + 1;
     while l < n {
         let o = l * 4;
-        if keys::function_is(calls, o, fid, count) {
+        if keys::function_is(calls, ws, o, fid, count, width) {
             let sq = calls[o + 2];
             if call_stands(cargs, target, troots, idx, sp, sq, count, vp, calls[o]) {
                 idx += 1;

@@ -10,7 +10,7 @@ use Rattle.lists.proofs.Tests.{all-true, agree-yes}
 use Rattle.lowering.specs.Tables.{readArray, readIndex, callFunction, callStart, argCount, callArg, resultWidth, argWidth}
 use Rattle.lowering.specs.Tables.{sameRead, sameFunction, sameCall}
 use Rattle.keys.specs.Keys.{readIs, functionIs, callIs, functionsAgree}
-use Rattle.keys.proofs.Order.{fails, two}
+use Rattle.keys.proofs.Order.{fails, three}
 
 eqb-sym : (a b : ℕ) → eqb a b ≡ eqb b a
 eqb-sym a b = go (eqb a b) refl
@@ -19,16 +19,16 @@ eqb-sym a b = go (eqb a b) refl
     go true e = sym (eq-eqb b a (sym (eqb-true a b e)))
     go false e = sym (ne-eqb b a (λ z. eqb-false a b e (sym z)))
 
--- number and count with the rows, then function: function, then rows
+-- number, count and result with the rows, then the function: the function, then the rows
 regroup : (a b c d e : Bool)
-    → all (all (all (a ∷ b ∷ []) ∷ e ∷ []) ∷ all (all (a ∷ b ∷ []) ∷ c ∷ d ∷ []) ∷ []) ≡ all (all (a ∷ b ∷ c ∷ d ∷ []) ∷ e ∷ [])
+    → all (all (all (a ∷ b ∷ c ∷ []) ∷ e ∷ []) ∷ all (all (a ∷ b ∷ c ∷ []) ∷ d ∷ []) ∷ []) ≡ all (all (a ∷ b ∷ c ∷ d ∷ []) ∷ e ∷ [])
 unfolding all
 regroup false b c d e = refl
 regroup true false c d e = refl
-regroup true true c d true = refl
+regroup true true false d e = refl
+regroup true true true d true = refl
 regroup true true true true false = refl
 regroup true true true false false = refl
-regroup true true false d false = refl
 
 -- reads
 module _ (reads : List ℕ) where
@@ -44,24 +44,37 @@ module _ (reads : List ℕ) where
 module _ (calls cargs ws : List ℕ) where
   pub same-function-at : (p q k l : ℕ) → p ≡ k * 4 → q ≡ l * 4 → functionsAgree calls cargs ws p q ≡ sameFunction calls cargs ws k l
   unfolding sameFunction
-  same-function-at p q k l e f = rw (e, f) (two _ _ _)
+  same-function-at p q k l e f = rw (e, f) (three _ _ _ _)
 
-  -- another number or count is another function, either way round; one number and count give one count
-  pub other-function : (k l : ℕ) → functionIs calls (l * 4) (callFunction calls k) (argCount calls k) ≡ false → sameFunction calls cargs ws k l ≡ false
+  -- entry l has entry k's number, count and result width, or is of another function
+  abbrev pub alike : ℕ → ℕ → Bool
+  alike k l = functionIs calls ws (l * 4) (callFunction calls k) (argCount calls k) (resultWidth calls ws k)
+
+  pub other-function : (k l : ℕ) → alike k l ≡ false → sameFunction calls cargs ws k l ≡ false
   unfolding sameFunction
   other-function k l e =
-      sym (two _ _ _)
-      ∙ sym (fails _ (rw (eqb-sym (callFunction calls l) (callFunction calls k), eqb-sym (argCount calls l) (argCount calls k)) at e))
+      sym (three _ _ _ _)
+      ∙ sym (fails _ (rw (
+        eqb-sym (callFunction calls l) (callFunction calls k),
+        eqb-sym (argCount calls l) (argCount calls k),
+        eqb-sym (resultWidth calls ws l) (resultWidth calls ws k),
+      ) at e))
 
-  pub one-count : (k l : ℕ) → functionIs calls (l * 4) (callFunction calls k) (argCount calls k) ≡ true
-      → (callFunction calls k ≡ callFunction calls l) × (argCount calls k ≡ argCount calls l)
-  one-count k l e =
-      let (f, (n, _)) = all-true _ e in
-      (sym (eqb-true (callFunction calls l) (callFunction calls k) f), sym (eqb-true (argCount calls l) (argCount calls k) n))
+  pub alike-fields : (k l : ℕ) → alike k l ≡ true
+      → (callFunction calls k ≡ callFunction calls l) × (argCount calls k ≡ argCount calls l) × (resultWidth calls ws k ≡ resultWidth calls ws l)
+  alike-fields k l e =
+      let (f, (n, (w, _))) = all-true _ e in (
+        sym (eqb-true (callFunction calls l) (callFunction calls k) f),
+        sym (eqb-true (argCount calls l) (argCount calls k) n),
+        sym (eqb-true (resultWidth calls ws l) (resultWidth calls ws k) w),
+      )
 
   -- the key: function and arguments, in whichever order they are asked for
   pub same-call-at : (off i k : ℕ) → off ≡ i * 4
-      → all (callIs calls cargs off (callFunction calls k) (callStart calls k) (argCount calls k) ∷ functionsAgree calls cargs ws off (k * 4) ∷ [])
+      → all
+      (callIs calls cargs ws off (callFunction calls k) (callStart calls k) (argCount calls k) (resultWidth calls ws k)
+      ∷ functionsAgree calls cargs ws off (k * 4)
+      ∷ [])
       ≡ sameCall calls cargs ws i k
   unfolding sameCall sameFunction
   same-call-at off i k e = rw e (regroup _ _ _ _ _)

@@ -35,15 +35,28 @@ pub fn read_dup(reads: &[u64], k: usize) -> bool
     off < upto
 }
 
-// The call entry at off has function number f and n arguments.
-pub fn function_is(calls: &[u64], off: usize, f: u64, n: u64) -> bool
+// The width of a row; 0 past the rows.
+pub fn width_at(ws: &[u64], r: u64) -> u64
+    ensures width { λ w. ⌜ w ≡ getD (now (ws .entry)) r 0 ⌝ }
+{
+    if ws.len() as u64 <= r {
+        return 0;
+    }
+    ws[r as usize]
+}
+
+// The call entry at off has function number f, n arguments and a result of w bits.
+pub fn function_is(calls: &[u64], ws: &[u64], off: usize, f: u64, n: u64, w: u64) -> bool
     requires { ⌜ off + 4 ≤ length (now calls) ⌝ }
-    ensures test { λ b. ⌜ b ≡ functionIs (now (calls .entry)) off f n ⌝ }
+    ensures test { λ b. ⌜ b ≡ functionIs (now (calls .entry)) (now (ws .entry)) off f n w ⌝ }
 {
     if calls[off + 1] != f {
         return false;
     }
-    calls[off + 3] == n
+    if calls[off + 3] != n {
+        return false;
+    }
+    width_at(ws, calls[off]) == w
 }
 
 // The n arguments from s on are those from t on.
@@ -61,25 +74,24 @@ fn args_eq(cargs: &[u64], s: usize, t: usize, n: usize) -> bool
     true
 }
 
-// The call entry at off has function number f and the n arguments from s on.
-fn call_is(calls: &[u64], cargs: &[u64], off: usize, f: u64, s: u64, n: u64) -> bool
+// The call entry at off has these and the n arguments from s on.
+fn call_is(
+    calls: &[u64],
+    cargs: &[u64],
+    ws: &[u64],
+    off: usize,
+    f: u64,
+    s: u64,
+    n: u64,
+    w: u64,
+) -> bool
     requires { ⌜ (off + 4 ≤ length (now calls)) × ArgsAt (now calls) (now cargs) off × (s + n ≤ length (now cargs)) ⌝ }
-    ensures test { λ b. ⌜ b ≡ callIs (now (calls .entry)) (now (cargs .entry)) off f s n ⌝ }
+    ensures test { λ b. ⌜ b ≡ callIs (now (calls .entry)) (now (cargs .entry)) (now (ws .entry)) off f s n w ⌝ }
 {
-    if !function_is(calls, off, f, n) {
+    if !function_is(calls, ws, off, f, n, w) {
         return false;
     }
     args_eq(cargs, calls[off + 2] as usize, s as usize, n as usize)
-}
-
-// The width of a row; 0 past the rows.
-fn width_at(ws: &[u64], r: u64) -> u64
-    ensures width { λ w. ⌜ w ≡ getD (now (ws .entry)) r 0 ⌝ }
-{
-    if ws.len() as u64 <= r {
-        return 0;
-    }
-    ws[r as usize]
 }
 
 // The n arguments from s on have the widths of those from t on.
@@ -106,11 +118,8 @@ pub fn same_function(calls: &[u64], cargs: &[u64], ws: &[u64], p: usize, q: usiz
     ensures test { λ b. ⌜ b ≡ functionsAgree (now (calls .entry)) (now (cargs .entry)) (now (ws .entry)) p q ⌝ }
 {
     let n = calls[q + 3];
-    if !function_is(calls, p, calls[q + 1], n) {
-        return false;
-    }
-    let w = width_at(ws, calls[p]);
-    if w != width_at(ws, calls[q]) {
+    let w = width_at(ws, calls[q]);
+    if !function_is(calls, ws, p, calls[q + 1], n, w) {
         return false;
     }
     arg_widths_eq(
@@ -122,7 +131,8 @@ pub fn same_function(calls: &[u64], cargs: &[u64], ws: &[u64], p: usize, q: usiz
     )
 }
 
-// The call entry at off has the key of the one at q, which is of function number f with n arguments from s on. Rows first: rarely do these agree.
+// The call entry at off has the key of the one at q, which has number f, n arguments from s on and a result of w bits. The argument rows before
+// their widths: rarely do all rows agree.
 fn call_again(
     calls: &[u64],
     cargs: &[u64],
@@ -132,13 +142,14 @@ fn call_again(
     f: u64,
     s: u64,
     n: u64,
+    w: u64,
 ) -> bool
     requires { ⌜ (off + 4 ≤ length (now calls)) × (q + 4 ≤ length (now calls)) × (s + n ≤ length (now cargs)) ⌝ }
     requires { ⌜ ArgsAt (now calls) (now cargs) off × ArgsAt (now calls) (now cargs) q ⌝ }
-    ensures test { λ b. ⌜ b ≡ all (callIs (now (calls .entry)) (now (cargs .entry)) off f s n
+    ensures test { λ b. ⌜ b ≡ all (callIs (now (calls .entry)) (now (cargs .entry)) (now (ws .entry)) off f s n w
         ∷ functionsAgree (now (calls .entry)) (now (cargs .entry)) (now (ws .entry)) off q ∷ []) ⌝ }
 {
-    if !call_is(calls, cargs, off, f, s, n) {
+    if !call_is(calls, cargs, ws, off, f, s, n, w) {
         return false;
     }
     same_function(calls, cargs, ws, off, q)
@@ -154,8 +165,9 @@ pub fn call_dup(calls: &[u64], cargs: &[u64], ws: &[u64], k: usize) -> bool
     let f = calls[upto + 1];
     let s = calls[upto + 2];
     let n = calls[upto + 3];
+    let w = width_at(ws, calls[upto]);
     let mut off = 0;
-    while !call_again(calls, cargs, ws, off, upto, f, s, n) {
+    while !call_again(calls, cargs, ws, off, upto, f, s, n, w) {
         off += 4;
     }
     off < upto

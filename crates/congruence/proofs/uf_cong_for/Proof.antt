@@ -1,33 +1,34 @@
 -- Invariant: the pairs of entry k with entries from l on give what all its pairs give. Assumes nothing.
-use Prim.Native.Nat.{_+_, _*_, _≤_, _-_}
-use mathlib.Core.Path.{_≡_, refl, _∙_, sym}
+use Prim.Native.Nat.{ℕ, _+_, _*_, _≤_, _-_}
+use mathlib.Core.Path.{_≡_, refl, _∙_, sym, ap}
+use mathlib.Core.Bool.{Bool}
 use mathlib.Core.Logic.{⊎-elim}
 use native.Mathlib.Omega.{arith}
 use borrow.Author.Needs.{needs}
 use borrow.Author.Tests.{not-true, not-false}
 use lib.ListN.{length}
-use Rattle.lowering.specs.Tables.{callCount, callFunction, callStart, argCount, sameFunction}
+use Rattle.lowering.specs.Tables.{callCount, callFunction, callStart, argCount, resultWidth, sameFunction}
 use Rattle.lowering.specs.Roots.{pair, callRoot, rootAt}
-use Rattle.keys.specs.Keys.{functionsAgree}
-use Rattle.keys.proofs.Keys.{same-function-at, other-function, one-count}
+use Rattle.keys.specs.Keys.{functionIs, functionsAgree}
+use Rattle.keys.proofs.Keys.{same-function-at, alike, other-function, alike-fields}
 use Rattle.pairs.proofs.Walk.{RowKept, row-end, row-skip, row-on, row-stop, root-inside}
 use Rattle.congruence.proofs.Even.{one-function}
 use Rattle.congruence.proofs.uf_cong_for.Statement.{statement}
 use Rattle.congruence.proofs.uf_cong_for.Tie as tie
 
 abbrev Inv-loop : tie.InvT-loop
-Inv-loop calls cargs target ws troots k idx0 n at vp fid sp count idx₀ l₀ idx l =
+Inv-loop calls cargs target ws troots k idx0 n at vp fid sp count width idx₀ l₀ idx l =
     (l ≤ n) × RowKept troots (callRoot calls cargs target) (sameFunction calls cargs ws) (callCount calls) k idx0 idx l
 
 abbrev μ-loop : tie.MeasureT-loop
-μ-loop calls cargs target ws troots k idx0 n at vp fid sp count idx₀ l₀ idx l = n - l
+μ-loop calls cargs target ws troots k idx0 n at vp fid sp count width idx₀ l₀ idx l = n - l
 
 -- places, seen from the loop: the start, and after the count
 abbrev start : tie.At-loop Inv-loop μ-loop → tie.Start Inv-loop μ-loop
-start a = a .before .before .before .before .before .before .before .before .before .before .before
+start a = a .before .before .before .before .before .before .before .before .before .before .before .before
 
 abbrev counted : tie.At-loop Inv-loop μ-loop → tie.After-call-count Inv-loop μ-loop
-counted a = a .before .before .before .before .before
+counted a = a .before .before .before .before .before .before
 
 -- entry k is whole
 whole : (p : tie.Start Inv-loop μ-loop) → p .args .k * 4 + 4 ≤ length (p .args .calls .now)
@@ -72,11 +73,14 @@ mul-count c = omega (arith, whole (c .before .before .before .before .before .be
 shared-slice-read-count : tie.Need-shared-slice-read-count Inv-loop μ-loop
 shared-slice-read-count c = omega (arith, whole (c .before .before .before .before .before .before .before .before .before .before))
 
+width-at-requires : tie.Need-width-at-requires Inv-loop μ-loop
+width-at-requires c κs = search needs
+
 add-l : tie.Need-add-l Inv-loop μ-loop
-add-l c = omega (arith, whole (c .before .before .before .before .before .before .before .before .before .before))
+add-l c = omega (arith, whole (c .before .before .before .before .before .before .before .before .before .before .before))
 
 loop-holds : tie.Need-loop-holds Inv-loop μ-loop
-loop-holds c = (omega (arith, c .before .before .before .before .call-count .ensures), record { kept = refl })
+loop-holds c = (omega (arith, c .before .before .before .before .before .call-count .ensures), record { kept = refl })
 
 -- entry l is whole and its arguments lie in their list
 entry : (c : tie.In-loop Inv-loop μ-loop)
@@ -92,15 +96,26 @@ function-is-requires : tie.Need-function-is-requires Inv-loop μ-loop
 function-is-requires c κs = entry c .0
 
 -- what the calls test
+alike-is : (c : tie.After-function-is Inv-loop μ-loop)
+    → let a = c .before .before in
+    let s = start a .args in
+    c .function-is .result ≡ alike (s .calls .now) (s .cargs .now) (s .ws .now) (s .k) (a .loop .l)
+alike-is c =
+    let a = c .before .before in
+    let s = start a .args in
+    let at : ℕ → Bool = functionIs (s .calls .now) (s .ws .now) (a .loop .l * 4) (callFunction (s .calls .now) (s .k)) (argCount (s .calls .now) (s .k)) in
+    c .function-is .ensures ∙ ap at (a .before .width-at .ensures)
+
 told : (c : tie.Then1 Inv-loop μ-loop)
     → let a = c .before .before .before in
     let s = start a .args in
     (callFunction (s .calls .now) (s .k) ≡ callFunction (s .calls .now) (a .loop .l))
     × (argCount (s .calls .now) (s .k) ≡ argCount (s .calls .now) (a .loop .l))
+    × (resultWidth (s .calls .now) (s .ws .now) (s .k) ≡ resultWidth (s .calls .now) (s .ws .now) (a .loop .l))
 told c =
     let a = c .before .before .before in
     let s = start a .args in
-    one-count (s .calls .now) (s .cargs .now) (s .ws .now) (s .k) (a .loop .l) (sym (c .before .function-is .ensures) ∙ c .if1 .taken)
+    alike-fields (s .calls .now) (s .cargs .now) (s .ws .now) (s .k) (a .loop .l) (sym (alike-is (c .before)) ∙ c .if1 .taken)
 
 needs-is : (c : tie.After-same-function Inv-loop μ-loop)
     → let a = c .before .before .before .before .before .before .before .before in
@@ -172,18 +187,18 @@ loop-again c =
     let s = start at-loop .args in
     let l = at-loop .loop in
     let h = rw (counted at-loop .call-count .ensures) at (c .before .before .loop-test .taken) in
-    let one = one-function (s .target .now) (s .ws .now) (start at-loop .pre .1 .0) (s .calls .now) (s .cargs .now) (s .troots .now) (s .k) (l .l) in
+    let one = one-function (s .target .now) (s .ws .now) (start at-loop .pre .1 .0) (s .calls .now) (s .cargs .now) (s .troots .now) (s .k) (l .l) (l .idx) in
     let same = same-function-at (s .calls .now) (s .cargs .now) (s .ws .now) _ _ (s .k) (l .l) refl refl in
     let other = other-function (s .calls .now) (s .cargs .now) (s .ws .now) (s .k) (l .l) in (
       omega arith,
       ⊎-elim
           (λ w.
           let stands = sym (w .3 .ensures) ∙ w .4 .taken in
-          let (f, n) = told record { before = c .before; if1 = w .0 } in
-          rw (w .5) (row-on (l .inv .1) h (one (l .idx) f n stands) stands))
+          let (f, n, b) = told record { before = c .before; if1 = w .0 } in
+          rw (w .5) (row-on (l .inv .1) h (one stands f n b) stands))
           (⊎-elim
           (λ w. rw (w .7) (row-skip (l .inv .1) h (sym same ∙ sym (w .5 .ensures) ∙ w .6 .left)))
-          (λ w. rw (w .1) (row-skip (l .inv .1) h (other (sym (c .before .function-is .ensures) ∙ w .0 .left)))))
+          (λ w. rw (w .1) (row-skip (l .inv .1) h (other (sym (alike-is (c .before)) ∙ w .0 .left)))))
           (c .if1 .came),
     )
 
@@ -209,6 +224,7 @@ uf-cong-for-spec =
     add-count
     mul-count
     shared-slice-read-count
+    width-at-requires
     add-l
     loop-holds
     mul-o

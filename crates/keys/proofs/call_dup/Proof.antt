@@ -12,10 +12,10 @@ use Rattle.keys.proofs.call_dup.Statement.{statement}
 use Rattle.keys.proofs.call_dup.Tie as tie
 
 abbrev Inv-loop : tie.InvT-loop
-Inv-loop calls cargs ws k upto f s n off₀ off = Searched (λ l. sameCall calls cargs ws l k) 4 k off
+Inv-loop calls cargs ws k upto f s n w off₀ off = Searched (λ l. sameCall calls cargs ws l k) 4 k off
 
 abbrev μ-loop : tie.MeasureT-loop
-μ-loop calls cargs ws k upto f s n off₀ off = k * 4 - off
+μ-loop calls cargs ws k upto f s n w off₀ off = k * 4 - off
 
 mul-upto : tie.Need-mul-upto Inv-loop μ-loop
 mul-upto c = search needs
@@ -47,12 +47,21 @@ mul-n c = search needs
 shared-slice-read-n : tie.Need-shared-slice-read-n Inv-loop μ-loop
 shared-slice-read-n c = search needs
 
+mul-width-at : tie.Need-mul-width-at Inv-loop μ-loop
+mul-width-at c = search needs
+
+shared-slice-read-width-at : tie.Need-shared-slice-read-width-at Inv-loop μ-loop
+shared-slice-read-width-at c = search needs
+
+width-at-requires : tie.Need-width-at-requires Inv-loop μ-loop
+width-at-requires c κs = search needs
+
 loop-holds : tie.Need-loop-holds Inv-loop μ-loop
 loop-holds c = searched-none _ _ _
 
 call-again-requires : tie.Need-call-again-requires Inv-loop μ-loop
 call-again-requires c κs =
-    let p = c .before .before .before .before .before .before .before in
+    let p = c .before .before .before .before .before .before .before .before .before in
     let i = c .loop .inv in
     let h : i .0 < p .args .k + 1 = omega (arith, i .2) in
     let k : p .args .k < p .args .k + 1 = omega arith in
@@ -60,7 +69,7 @@ call-again-requires c κs =
     ((omega (arith, i .1, i .2), p .pre .0, own), (rw (i .1) (p .pre .1 (i .0) h), own))
 
 abbrev entry : tie.Then1 Inv-loop μ-loop → tie.Start Inv-loop μ-loop
-entry c = c .before .before .before .before .before .before .before .before .before
+entry c = c .before .before .before .before .before .before .before .before .before .before .before
 
 -- entry i has the key; entry k has it
 abbrev has-key : tie.Start Inv-loop μ-loop → ℕ → Bool
@@ -71,11 +80,12 @@ self p = let s = p .args in call-self (s .calls .now) (s .cargs .now) (s .ws .no
 
 -- what the call tests: the entry at the offset has the key
 test : (c : tie.After-call-again Inv-loop μ-loop)
-    → c .call-again .result ≡ has-key (c .before .before .before .before .before .before .before .before) (c .before .loop .inv .0)
+    → c .call-again .result ≡ has-key (c .before .before .before .before .before .before .before .before .before .before) (c .before .loop .inv .0)
 test c =
-    let s = c .before .before .before .before .before .before .before .before .args in
+    let s = c .before .before .before .before .before .before .before .before .before .before .args in
     let l = c .before .loop in
-    c .call-again .ensures ∙ same-call-at (s .calls .now) (s .cargs .now) (s .ws .now) (l .off) (l .inv .0) (s .k) (l .inv .1)
+    c .call-again .ensures
+    ∙ rw (c .before .before .width-at .ensures) (same-call-at (s .calls .now) (s .cargs .now) (s .ws .now) (l .off) (l .inv .0) (s .k) (l .inv .1))
 
 -- where it has not, a whole entry follows
 more : (c : tie.Then1 Inv-loop μ-loop) → c .before .before .loop .off + 4 ≤ entry c .args .k * 4
@@ -96,7 +106,7 @@ loop-again c =
 
 returns : tie.Need-returns Inv-loop μ-loop
 returns c =
-    let p = c .before .before .before .before .before .before .before .before .before in
+    let p = c .before .before .before .before .before .before .before .before .before .before .before in
     let l = c .before .before .loop in
     found (has-key p) 4 (p .args .k) (self p) (l .off) (l .inv) (omega arith) (sym (test (c .before)) ∙ not-false _ (c .if1 .left))
 
@@ -116,6 +126,9 @@ call-dup-spec =
     add-n
     mul-n
     shared-slice-read-n
+    mul-width-at
+    shared-slice-read-width-at
+    width-at-requires
     loop-holds
     call-again-requires
     add-off

@@ -26,7 +26,7 @@ shared-slice-read-args-eq c = search needs
 
 args-eq-requires : tie.Need-args-eq-requires
 args-eq-requires c κs =
-    let start = c .before .before .before .before .before in
+    let start = c .before .before .before .before .before .before in
     let (_, (e, _)) = all-true _ (sym (c .before .before .function-is .ensures) ∙ not-false _ (c .before .if1 .left)) in
     (rw (eqb-true (getD (start .args .calls .now) (start .args .off + 3) 0) (start .args .n) e) at (start .pre .1), start .pre .2)
 

@@ -1,8 +1,8 @@
--- Number and count, the results' widths, the arguments' widths: the definition's order. Assumes nothing.
+-- Number, count and result, then the arguments' widths: the definition's order. Assumes nothing.
 use Prim.Native.Nat.{_+_}
-use mathlib.Core.Path.{_≡_, _∙_, sym}
+use mathlib.Core.Path.{_≡_, _∙_, sym, ap}
 use mathlib.Core.Bool.{true}
-use borrow.Author.Tests.{eqb-true, eq-eqb, ne-eqb, not-true, not-false}
+use borrow.Author.Tests.{eqb-true, not-true, not-false}
 use lib.ListN.{getD}
 use Rattle.lists.proofs.Tests.{all-true}
 use Rattle.keys.specs.Keys.{functionIs}
@@ -20,6 +20,15 @@ mul-n c = search needs
 shared-slice-read-n : tie.Need-shared-slice-read-n
 shared-slice-read-n c = search needs
 
+mul-width-at : tie.Need-mul-width-at
+mul-width-at c = search needs
+
+shared-slice-read-width-at : tie.Need-shared-slice-read-width-at
+shared-slice-read-width-at c = search needs
+
+width-at-requires : tie.Need-width-at-requires
+width-at-requires c κs = search needs
+
 add-function-is : tie.Need-add-function-is
 add-function-is c = search needs
 
@@ -32,45 +41,16 @@ shared-slice-read-function-is c = search needs
 function-is-requires : tie.Need-function-is-requires
 function-is-requires c κs = search needs
 
--- number and count agree
-one : (c : tie.Else1)
-    → let s = c .before .before .before .before .before .before .before .args in
-    functionIs (s .calls .now) (s .p) (getD (s .calls .now) (s .q + 1) 0) (getD (s .calls .now) (s .q + 3) 0) ≡ true
-one c = sym (c .before .function-is .ensures) ∙ not-false _ (c .if1 .left)
+-- what the call tests
+alike : (c : tie.After-function-is)
+    → let s = c .before .before .before .before .before .before .before .before .args in
+    c .function-is .result
+    ≡ functionIs (s .calls .now) (s .ws .now) (s .p) (getD (s .calls .now) (s .q + 1) 0) (getD (s .calls .now) (s .q + 3) 0)
+    (getD (s .ws .now) (getD (s .calls .now) (s .q) 0) 0)
+alike c = c .function-is .ensures ∙ rw (c .before .before .width-at .ensures)
 
 returns : tie.Need-returns
-returns c = fails _ (sym (c .before .function-is .ensures) ∙ not-true _ (c .if1 .taken))
-
-mul-width-at : tie.Need-mul-width-at
-mul-width-at c = search needs
-
-shared-slice-read-width-at : tie.Need-shared-slice-read-width-at
-shared-slice-read-width-at c = search needs
-
-width-at-requires : tie.Need-width-at-requires
-width-at-requires c κs = search needs
-
-mul-width-at-2 : tie.Need-mul-width-at-2
-mul-width-at-2 c = search needs
-
-shared-slice-read-width-at-2 : tie.Need-shared-slice-read-width-at-2
-shared-slice-read-width-at-2 c = search needs
-
-width-at-requires-2 : tie.Need-width-at-requires-2
-width-at-requires-2 c κs = search needs
-
--- what the two widths are
-results : (c : tie.After-width-at2)
-    → let s = c .before .before .before .before .before .before .before .before .before .before .before .args in
-    (c .before .before .width-at .result ≡ getD (s .ws .now) (getD (s .calls .now) (s .p) 0) 0)
-    × (c .width-at2 .result ≡ getD (s .ws .now) (getD (s .calls .now) (s .q) 0) 0)
-results c = (c .before .before .width-at .ensures, c .width-at2 .ensures)
-
-returns-2 : tie.Need-returns-2
-returns-2 c =
-    let (p, q) = results (c .before) in
-    fails _ (ne-eqb _ _ (λ z. c .if2 .taken (p ∙ z ∙ sym q)))
-    ∙ passes _ (one (c .before .before .before .before .before))
+returns c = fails _ (sym (alike (c .before)) ∙ not-true _ (c .if1 .taken))
 
 add-arg-widths-eq : tie.Need-add-arg-widths-eq
 add-arg-widths-eq c = search needs
@@ -92,19 +72,16 @@ shared-slice-read-arg-widths-eq-2 c = search needs
 
 arg-widths-eq-requires : tie.Need-arg-widths-eq-requires
 arg-widths-eq-requires c κs =
-    let told = c .before .before .before .before .before .before .before in
-    let start = told .before .before .before .before .before .before .before in
+    let told = c .before .before in
+    let start = told .before .before .before .before .before .before .before .before .before in
     let s = start .args in
-    let (_, (e, _)) = all-true _ (one told) in
+    let (_, (e, _)) = all-true _ (sym (alike (told .before)) ∙ not-false _ (told .if1 .left)) in
     (rw (eqb-true (getD (s .calls .now) (s .p + 3) 0) (getD (s .calls .now) (s .q + 3) 0) e) at (start .pre .1 .0), start .pre .1 .1)
 
-returns-3 : tie.Need-returns-3
-returns-3 c =
-    let compared = c .before .before .before in
-    let (p, q) = results (compared .before) in
-    c .arg-widths-eq .ensures ∙ alone _
-    ∙ passes _ (eq-eqb _ _ (sym p ∙ compared .if2 .left ∙ q))
-    ∙ passes _ (one (compared .before .before .before .before .before))
+returns-2 : tie.Need-returns-2
+returns-2 c =
+    let told = c .before .before .before in
+    c .arg-widths-eq .ensures ∙ alone _ ∙ passes _ (sym (alike (told .before)) ∙ not-false _ (told .if1 .left))
 
 pub same-function-spec : {M : Type 1} → statement M
 same-function-spec =
@@ -113,18 +90,14 @@ same-function-spec =
     add-n
     mul-n
     shared-slice-read-n
+    mul-width-at
+    shared-slice-read-width-at
+    width-at-requires
     add-function-is
     mul-function-is
     shared-slice-read-function-is
     function-is-requires
     returns
-    mul-width-at
-    shared-slice-read-width-at
-    width-at-requires
-    mul-width-at-2
-    shared-slice-read-width-at-2
-    width-at-requires-2
-    returns-2
     add-arg-widths-eq
     mul-arg-widths-eq
     shared-slice-read-arg-widths-eq
@@ -132,4 +105,4 @@ same-function-spec =
     mul-arg-widths-eq-2
     shared-slice-read-arg-widths-eq-2
     arg-widths-eq-requires
-    returns-3)
+    returns-2)
