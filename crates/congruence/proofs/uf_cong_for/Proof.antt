@@ -23,12 +23,12 @@ Inv-loop calls cargs target ws troots k idx0 n at vp fid sp count width idx₀ l
 abbrev μ-loop : tie.MeasureT-loop
 μ-loop calls cargs target ws troots k idx0 n at vp fid sp count width idx₀ l₀ idx l = n - l
 
--- places, seen from the loop: the start, and after the count
-abbrev start : tie.At-loop Inv-loop μ-loop → tie.Start Inv-loop μ-loop
-start a = a .before .before .before .before .before .before .before .before .before .before .before .before
-
+-- places, seen from the loop: after the count, and the start
 abbrev counted : tie.At-loop Inv-loop μ-loop → tie.After-call-count Inv-loop μ-loop
 counted a = a .before .before .before .before .before .before
+
+abbrev start : tie.At-loop Inv-loop μ-loop → tie.Start Inv-loop μ-loop
+start a = counted a .before .before .before .before .before .before
 
 -- entry k is whole
 whole : (p : tie.Start Inv-loop μ-loop) → p .args .k * 4 + 4 ≤ length (p .args .calls .now)
