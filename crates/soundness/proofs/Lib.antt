@@ -20,3 +20,4 @@ pub mod Theorem
 pub mod Guards
 pub mod Model
 pub mod Scan
+pub mod Functions
