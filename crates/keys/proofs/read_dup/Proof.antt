@@ -1,6 +1,7 @@
 -- Invariant: no entry before the offset has the key; entry k itself ends the search. Assumes nothing.
-use Prim.Native.Nat.{_≤_, _+_, _*_, _-_}
+use Prim.Native.Nat.{ℕ, _≤_, _+_, _*_, _-_}
 use mathlib.Core.Path.{_≡_, _∙_, sym}
+use mathlib.Core.Bool.{Bool, true}
 use native.Mathlib.Omega.{arith}
 use borrow.Author.Needs.{needs}
 use borrow.Author.Tests.{not-true, not-false}
@@ -46,10 +47,15 @@ read-is-requires c κs = let i = c .loop .inv in omega (arith, i .1, i .2)
 abbrev entry : tie.Then1 Inv-loop μ-loop → tie.Start Inv-loop μ-loop
 entry c = c .before .before .before .before .before .before
 
+-- entry i has the key; entry k has it
+abbrev has-key : tie.Start Inv-loop μ-loop → ℕ → Bool
+has-key p i = let s = p .args in sameRead (s .reads .now) i (s .k)
+
+self : (p : tie.Start Inv-loop μ-loop) → has-key p (p .args .k) ≡ true
+self p = let s = p .args in read-self (s .reads .now) (s .k)
+
 -- what the call tests: the entry at the offset has the key
-test : (c : tie.After-read-is Inv-loop μ-loop)
-    → let s = c .before .before .before .before .before .args in
-    c .read-is .result ≡ sameRead (s .reads .now) (c .before .loop .inv .0) (s .k)
+test : (c : tie.After-read-is Inv-loop μ-loop) → c .read-is .result ≡ has-key (c .before .before .before .before .before) (c .before .loop .inv .0)
 test c =
     let s = c .before .before .before .before .before .args in
     let l = c .before .loop in
@@ -58,9 +64,8 @@ test c =
 -- where it has not, a whole entry follows
 more : (c : tie.Then1 Inv-loop μ-loop) → c .before .before .loop .off + 3 ≤ entry c .args .k * 3
 more c =
-    let s = entry c .args in
     let l = c .before .before .loop in
-    goes-on (λ i. sameRead (s .reads .now) i (s .k)) 3 (s .k) (read-self (s .reads .now) (s .k)) (l .off) (l .inv) (sym (test (c .before)) ∙ not-true _ (c .if1 .taken))
+    goes-on (has-key (entry c)) 3 (entry c .args .k) (self (entry c)) (l .off) (l .inv) (sym (test (c .before)) ∙ not-true _ (c .if1 .taken))
 
 add-off : tie.Need-add-off Inv-loop μ-loop
 add-off c = omega (arith, more c)
@@ -70,15 +75,14 @@ loop-less c = omega (arith, more c)
 
 loop-again : tie.Need-loop-again Inv-loop μ-loop
 loop-again c =
-    let s = entry c .args in
     let l = c .before .before .loop in
-    searched-more (λ i. sameRead (s .reads .now) i (s .k)) 3 (s .k) (read-self (s .reads .now) (s .k)) (l .off) (l .inv) (sym (test (c .before)) ∙ not-true _ (c .if1 .taken))
+    searched-more (has-key (entry c)) 3 (entry c .args .k) (self (entry c)) (l .off) (l .inv) (sym (test (c .before)) ∙ not-true _ (c .if1 .taken))
 
 returns : tie.Need-returns Inv-loop μ-loop
 returns c =
-    let s = c .before .before .before .before .before .before .args in
+    let p = c .before .before .before .before .before .before in
     let l = c .before .before .loop in
-    found (λ i. sameRead (s .reads .now) i (s .k)) 3 (s .k) (read-self (s .reads .now) (s .k)) (l .off) (l .inv) (omega arith) (sym (test (c .before)) ∙ not-false _ (c .if1 .left))
+    found (has-key p) 3 (p .args .k) (self p) (l .off) (l .inv) (omega arith) (sym (test (c .before)) ∙ not-false _ (c .if1 .left))
 
 pub read-dup-spec : {M : Type 1} → statement M
 read-dup-spec =
