@@ -1,5 +1,5 @@
 -- 01's marked cases, computed of the definitions: the twelve, with their variants, and a few more of our own. Assumes nothing.
-use Prim.Native.Nat.{ℕ}
+use Prim.Native.Nat.{ℕ, _-_}
 use mathlib.Core.Path.{_≡_, refl}
 use mathlib.Core.List.{List, [], _∷_}
 use Rattle.answers.specs.declared.Words.{Words}
@@ -186,22 +186,24 @@ cases-results : answer (two-results 8 16 0) ∷ answer (two-results 8 8 0) ∷ a
 unfolding firstRefusal build first all agree trace rowIs bothConst sameConst unequalConst sameRead sameFunction sameCall readGood callGood isEq isLevel walk endGood callMatches varMatches nodeMatches rowAnswer rowClasses leads pairsWith pairs readsNeed allEqual congruent rootAt
 cases-results = refl
 
--- three calls whose arguments have 8, u and 8 bits: where u is 16, one root is due, row 9, for the first and the third. Row 11 says of the first and
--- the second that their results are equal: in the place of the root that is due it is 13, behind it 12. Where u is 8, three roots are due
+-- three calls whose arguments have 8, u and 8 bits: where u is 16, one root is due, row 9, for the first and the third. Row 14 says of the first and
+-- the second, its argument widened to u bits, what their root would say: before the root that is due it is 13, behind it 12. Where u is 8, three
+-- roots are due
 abbrev three-calls : ℕ → List ℕ → Lowering
 three-calls u troots =
     lowering (s5 0 8 0 0 0 (s5 0 u 0 0 0 (s5 0 8 0 0 0 (s5 38 3 8 0 1 (s5 38 3 8 1 1 (s5 38 3 8 2 1 [])))))) [] (0 ∷ 1 ∷ 2 ∷ []) [] (0 ∷ 1 ∷ 2 ∷ 3 ∷ 4 ∷ 5 ∷ []) []
     (3 ∷ 3 ∷ 0 ∷ 1 ∷ 4 ∷ 3 ∷ 1 ∷ 1 ∷ 5 ∷ 3 ∷ 2 ∷ 1 ∷ []) (0 ∷ 1 ∷ 2 ∷ [])
     (t4 0 8 0 0 (t4 0 u 0 0 (t4 0 8 0 0 (t4 0 8 0 0 (t4 0 8 0 0 (t4 0 8 0 0
-    (t4 19 0 2 0 (t4 29 6 0 0 (t4 19 3 5 0 (t4 31 7 8 0 (t4 19 3 4 0 (t4 31 7 10 0 [])))))))))))) [] troots
+    (t4 19 0 2 0 (t4 29 6 0 0 (t4 19 3 5 0 (t4 31 7 8 0
+    (t4 16 0 (u - 8) 0 (t4 19 10 1 0 (t4 29 11 0 0 (t4 19 3 4 0 (t4 31 12 13 0 []))))))))))))))) [] troots
 
 case-arguments : answer (three-calls 16 (9 ∷ [])) ≡ accepted
 unfolding firstRefusal build first all agree trace rowIs bothConst sameConst unequalConst sameRead sameFunction sameCall readGood callGood isEq isLevel walk endGood callMatches varMatches nodeMatches rowAnswer rowClasses leads pairsWith pairs readsNeed allEqual congruent rootAt
 case-arguments = refl
 
 cases-arguments : answer (three-calls 16 [])
-    ∷ answer (three-calls 16 (11 ∷ 9 ∷ []))
-    ∷ answer (three-calls 16 (9 ∷ 11 ∷ []))
+    ∷ answer (three-calls 16 (14 ∷ 9 ∷ []))
+    ∷ answer (three-calls 16 (9 ∷ 14 ∷ []))
     ∷ answer (three-calls 8 (9 ∷ []))
     ∷ []
     ≡ words 13 0 0 ∷ words 13 0 0 ∷ words 12 0 0 ∷ words 13 0 0 ∷ []
