@@ -1,13 +1,13 @@
 -- Laws of keys: the key at an entry's offset is the entry's, each entry has its own, functions are told apart either way round. Assumes nothing.
-use Prim.Native.Nat.{ℕ, _*_}
-use mathlib.Core.Path.{_≡_, refl, sym, ap, _∙_}
+use Prim.Native.Nat.{ℕ, _+_, _*_}
+use mathlib.Core.Path.{_≡_, refl, sym, _∙_}
 use mathlib.Core.Bool.{Bool, true, false}
 use mathlib.Core.List.{List, [], _∷_}
 use borrow.Author.Tests.{eq-eqb, eqb-true, eqb-false, ne-eqb}
 use lib.Dec.{eqb}
 use lib.ListN.{getD}
-use Rattle.lists.specs.Tests.{all, agree}
-use Rattle.lists.proofs.Tests.{all-true, agree-at, agree-yes}
+use Rattle.lists.specs.Tests.{all}
+use Rattle.lists.proofs.Tests.{all-true, agree-yes}
 use Rattle.lowering.specs.Tables.{readArray, readIndex, callFunction, callStart, argCount, callArg, resultWidth, argWidth}
 use Rattle.lowering.specs.Tables.{sameRead, sameFunction, sameCall}
 use Rattle.keys.specs.Keys.{readIs, functionIs, callIs, functionsAgree}
@@ -20,15 +20,16 @@ eqb-sym a b = go (eqb a b) refl
     go true e = sym (eq-eqb b a (sym (eqb-true a b e)))
     go false e = sym (ne-eqb b a (λ z. eqb-false a b e (sym z)))
 
--- a test that follows from a later one may be left out
-follows : (a b c d e : Bool) → (e ≡ true → d ≡ true) → all (all (a ∷ b ∷ c ∷ []) ∷ e ∷ []) ≡ all (all (a ∷ b ∷ c ∷ d ∷ []) ∷ e ∷ [])
+-- number, count and result with the rows, then the function: the function, then the rows
+regroup : (a b c d e : Bool)
+    → all (all (all (a ∷ b ∷ c ∷ []) ∷ e ∷ []) ∷ all (all (a ∷ b ∷ c ∷ []) ∷ d ∷ []) ∷ []) ≡ all (all (a ∷ b ∷ c ∷ d ∷ []) ∷ e ∷ [])
 unfolding all
-follows false b c d e h = refl
-follows true false c d e h = refl
-follows true true false d e h = refl
-follows true true true d true h = rw (h refl)
-follows true true true true false h = refl
-follows true true true false false h = refl
+regroup false b c d e = refl
+regroup true false c d e = refl
+regroup true true false d e = refl
+regroup true true true d true = refl
+regroup true true true true false = refl
+regroup true true true false false = refl
 
 -- reads
 module _ (reads : List ℕ) where
@@ -69,21 +70,27 @@ module _ (calls cargs ws : List ℕ) where
         sym (eqb-true (resultWidth calls ws l) (resultWidth calls ws k) w),
       )
 
-  -- the key: number, count, result and rows, since equal rows have equal widths
-  rows-widths : (i k : ℕ) → agree (callArg calls cargs i) (callArg calls cargs k) (argCount calls k) ≡ true
-      → agree (argWidth calls cargs ws i) (argWidth calls cargs ws k) (argCount calls k) ≡ true
-  rows-widths i k e =
-      let rows = agree-at (callArg calls cargs i) (callArg calls cargs k) (argCount calls k) e in
-      agree-yes (argWidth calls cargs ws i) (argWidth calls cargs ws k) (argCount calls k) (λ x h. ap (λ (r : ℕ). getD ws r 0) (rows x h))
-
+  -- the key: function and arguments, in whichever order they are asked for
   pub same-call-at : (off i k : ℕ) → off ≡ i * 4
-      → callIs calls cargs ws off (callFunction calls k) (callStart calls k) (argCount calls k) (resultWidth calls ws k) ≡ sameCall calls cargs ws i k
+      → all
+      (callIs calls cargs ws off (callFunction calls k) (callStart calls k) (argCount calls k) (resultWidth calls ws k)
+      ∷ functionsAgree calls cargs ws off (k * 4)
+      ∷ [])
+      ≡ sameCall calls cargs ws i k
   unfolding sameCall sameFunction
-  same-call-at off i k e = rw e (follows _ _ _ _ _ (rows-widths i k))
+  same-call-at off i k e = rw e (regroup _ _ _ _ _)
 
-  pub key-function : (i k : ℕ) → sameCall calls cargs ws i k ≡ true → sameFunction calls cargs ws i k ≡ true
-  unfolding sameCall
-  key-function i k e = all-true _ e .0
+  -- an entry is of its own function, and has its own key
+  pub function-self : (p : ℕ) → functionsAgree calls cargs ws p p ≡ true
+  unfolding all
+  function-self p =
+      let rows : ℕ → ℕ = λ l. getD ws (getD cargs (getD calls (p + 2) 0 + l) 0) 0 in
+      rw (
+        eq-eqb (getD calls (p + 1) 0) (getD calls (p + 1) 0) refl,
+        eq-eqb (getD calls (p + 3) 0) (getD calls (p + 3) 0) refl,
+        eq-eqb (getD ws (getD calls p 0) 0) (getD ws (getD calls p 0) 0) refl,
+        agree-yes rows rows (getD calls (p + 3) 0) (λ _ _. refl),
+      )
 
   pub call-self : (k : ℕ) → sameCall calls cargs ws k k ≡ true
   unfolding sameCall sameFunction all

@@ -1,9 +1,11 @@
 // Keys of table entries: what tells two functions apart, and whether an entry before has the same key.
 ghost use mathlib.Core.Path.{_≡_};
 ghost use mathlib.Core.Bool.{not};
+ghost use mathlib.Core.List.{[], _∷_};
 ghost use Prim.Native.Nat.{_≤_, _+_, _*_};
 ghost use lib.ListN.{length, getD};
 ghost use Rattle.lists.specs.First.{none};
+ghost use Rattle.lists.specs.Tests.{all};
 ghost use Rattle.lowering.specs.Tables.{sameRead, sameCall};
 ghost use Rattle.keys.specs.Keys.{readIs, functionIs, argsEq, callIs, argWidthsEq, functionsAgree, ArgsAt, ArgsInside};
 
@@ -129,8 +131,34 @@ pub fn same_function(calls: &[u64], cargs: &[u64], ws: &[u64], p: usize, q: usiz
     )
 }
 
-// A call entry before k has its key: it is of the same function and has the same argument rows. Entry k ends the search here too, and the first
-// entry found decides: equal rows have equal widths.
+// The call entry at off has the key of the one at q, which has number f, n arguments from s on and a result of w bits: it is that one, or of the
+// same function with the same argument rows. The rows before their widths: rarely do all rows agree.
+fn call_again(
+    calls: &[u64],
+    cargs: &[u64],
+    ws: &[u64],
+    off: usize,
+    q: usize,
+    f: u64,
+    s: u64,
+    n: u64,
+    w: u64,
+) -> bool
+    requires { ⌜ (off + 4 ≤ length (now calls)) × (q + 4 ≤ length (now calls)) × (s + n ≤ length (now cargs)) ⌝ }
+    requires { ⌜ ArgsAt (now calls) (now cargs) off × ArgsAt (now calls) (now cargs) q ⌝ }
+    ensures test { λ b. ⌜ b ≡ all (callIs (now (calls .entry)) (now (cargs .entry)) (now (ws .entry)) off f s n w
+        ∷ functionsAgree (now (calls .entry)) (now (cargs .entry)) (now (ws .entry)) off q ∷ []) ⌝ }
+{
+    if !call_is(calls, cargs, ws, off, f, s, n, w) {
+        return false;
+    }
+    if off == q {
+        return true;
+    }
+    same_function(calls, cargs, ws, off, q)
+}
+
+// A call entry before k has its key. Entry k ends the search here too.
 pub fn call_dup(calls: &[u64], cargs: &[u64], ws: &[u64], k: usize) -> bool
     requires { ⌜ k * 4 + 4 ≤ length (now calls) ⌝ }
     requires { ⌜ ArgsInside (now calls) (now cargs) (k + 1) ⌝ }
@@ -142,11 +170,8 @@ pub fn call_dup(calls: &[u64], cargs: &[u64], ws: &[u64], k: usize) -> bool
     let n = calls[upto + 3];
     let w = width_at(ws, calls[upto]);
     let mut off = 0;
-    while !call_is(calls, cargs, ws, off, f, s, n, w) {
+    while !call_again(calls, cargs, ws, off, upto, f, s, n, w) {
         off += 4;
     }
-    if off == upto {
-        return false;
-    }
-    same_function(calls, cargs, ws, off, upto)
+    off < upto
 }
