@@ -1,6 +1,6 @@
 -- Two calls whose congruence root stands have arguments of the same widths: an Eq row takes operands of one width. Assumes nothing.
 use Prim.Native.Nat.{ℕ, zero, suc, _-_, _<_, _≤_}
-use mathlib.Core.Path.{_≡_, sym}
+use mathlib.Core.Path.{_≡_}
 use mathlib.Core.Bool.{true}
 use mathlib.Core.Logic.{⊎-elim}
 use mathlib.Core.List.{List}
@@ -8,7 +8,7 @@ use native.Mathlib.Nat.{eq-or-lt-of-le}
 use native.Mathlib.Omega.{arith}
 use borrow.Author.Tests.{eq-eqb, ltb-true}
 use lib.ListN.{getD}
-use Rattle.lists.specs.Tests.{all, agree}
+use Rattle.lists.specs.Tests.{all}
 use Rattle.lists.proofs.Tests.{all-true, agree-yes}
 use Rattle.lowering.specs.Tables.{callFunction, argCount, resultWidth, argWidth, sameFunction}
 use Rattle.lowering.specs.Roots.{pair, allEqual, congruent, callRoot, rootAt}
