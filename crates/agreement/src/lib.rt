@@ -20,17 +20,19 @@ pub fn agrees(words: &[u64]) -> bool
         2 => single::widths_agree(words, false, 3),
         3 => single::roots_agree(words),
         4 => single::values_agree(words),
-        5 => paired::check_agrees(words),
-        6 => book_agrees(words),
+        5 => paired::check_agrees(false, words),
+        6 => book_agrees(false, words),
         7 => section_agrees(words),
+        8 => paired::check_agrees(true, words),
+        9 => book_agrees(true, words),
         _ => false,
     }
 }
 
-// The verdict on a book: its bytes are list 0.
-fn book_agrees(words: &[u64]) -> bool
+// The verdict on a book, strict or not: its bytes are list 0.
+fn book_agrees(strict: bool, words: &[u64]) -> bool
     requires { ⌜ length (now words) ≤ room ⌝ }
-    ensures agreed { λ r. ⌜ (r ≡ true → BookAgrees (now (words .entry))) ⌝ }
+    ensures agreed { λ r. ⌜ (r ≡ true → BookAgrees strict (now (words .entry))) ⌝ }
 {
     if !cases::has_shape(words, 1, 0) {
         return false;
@@ -41,7 +43,7 @@ fn book_agrees(words: &[u64]) -> bool
     if !copies::copy_bytes(list, &mut bytes) {
         return false;
     }
-    let a = judge::verdict(&bytes[..n]);
+    let a = judge::verdict(strict, &bytes[..n]);
     cases::same_answer(words, answers::words_of(a))
 }
 

@@ -6,13 +6,14 @@ use mathlib.Core.List.{List, [], _∷_}
 use lib.Dec.{eqb, ltb}
 use lib.ListN.{length}
 use Rattle.answers.specs.declared.Answer.{Answer}
-use Rattle.answers.specs.declared.Answer.the-variants.{Accepted, RowCount, WorkShort, BadRow, BadBit, Ext, Core, MapLength, ReadTable, CallTable, DeadEntry, RootMismatch, CongruenceMismatch, MapOutOfRange, VarClass, ConstMismatch, NodeMismatch, ChainMismatch, CallMismatch}
+use Rattle.answers.specs.declared.Answer.the-variants.{Accepted, RowCount, WorkShort, BadRow, BadBit, Ext, Core, MapLength, ReadTable, CallTable, DeadEntry, RootMismatch, CongruenceMismatch, BadRoot, MapOutOfRange, VarClass, ConstMismatch, NodeMismatch, ChainMismatch, CallMismatch}
 use Rattle.answers.specs.Answer.{isAccepted, keeps}
 use Rattle.lists.proofs.Choice.{no-way}
 use Rattle.rows.specs.declared.Graph.the-variants.{Source, Target}
 use Rattle.rows.specs.Row.{MAX, rowCount, rowAt, ragged}
 use Rattle.rows.specs.Node.{nodeOf}
 use Rattle.encoding.specs.Encoding.{badRow, badBit}
+use Rattle.wf.specs.Widths.{badRoot}
 use Rattle.lowering.specs.Images.{mapAt, sameConst}
 use Rattle.lowering.specs.Tables.{readCount, callCount, badRead, badCall}
 use Rattle.lowering.specs.Roots.{Pair, badLead, badCong, readPairs, callPairs, readRoot, callRoot}
@@ -20,6 +21,8 @@ use Rattle.lowering.specs.Matching.{Noted, noted, mappedArg, selectWalk, endGoo
 use Rattle.lowering.specs.Matching.{Kind, var, const, core, select, call, unknown, kindOf, kindAnswer, nodeAnswer, rowAnswer}
 use Rattle.lowering.specs.Lowering.{SourceGraph, TargetGraph, Lowering, Binding, bindingOf, entriesOf, sourceRows, targetRows}
 use Rattle.lowering.specs.Check.{widthsOfTarget, noClasses, classesOfReads, deadVariable, answerOf, mismatch, offsets, classes, refuse, firstRefusal, countAnswers, graphAnswers, rootAnswers, matchAnswers}
+use Rattle.lowering.specs.Check.{sourceIll, targetIll, sourceRowWidths, targetRowWidths, bitAnswers, formAnswers}
+use Rattle.lowering.proofs.Refusals.{refusal-append}
 
 -- a test's refusal, where it is none of the two
 keeps-refuse : (b : Bool) (a : Answer) → keeps a ≡ false → keeps (refuse b a) ≡ false
@@ -63,7 +66,7 @@ keeps-count S T w0 w1 c e n = go (ragged Source (S .rows)) (ragged Target (T .ro
     go false false false false false false n = no-way n
 
 -- the others are not
-pub keeps-graphs : (S : SourceGraph) (T : TargetGraph) (x y : ℕ) → keeps (firstRefusal (graphAnswers S T x y)) ≡ false
+keeps-graphs : (S : SourceGraph) (T : TargetGraph) (x y : ℕ) → keeps (firstRefusal (graphAnswers S T x y)) ≡ false
 keeps-graphs S T x y = keeps-first (graphAnswers S T x y) (row0, (row1, (bit0, (bit1, (ill0, (ill1, tt))))))
   where
     row0 : keeps (refuse (ltb (badRow Source (S .rows)) (rowCount Source (S .rows))) (BadRow (badRow Source (S .rows)) 1)) ≡ false
@@ -83,6 +86,27 @@ keeps-graphs S T x y = keeps-first (graphAnswers S T x y) (row0, (row1, (bit0, (
 
     ill1 : keeps (refuse (ltb y (rowCount Target (T .rows))) (Core y)) ≡ false
     ill1 = keeps-refuse (ltb y (rowCount Target (T .rows))) (Core y) refl
+
+keeps-bits : (strict : Bool) (ws0 eroots ws1 troots : List ℕ) → keeps (firstRefusal (bitAnswers strict ws0 eroots ws1 troots)) ≡ false
+keeps-bits true ws0 eroots ws1 troots = keeps-first (bitAnswers true ws0 eroots ws1 troots) (source, (target, tt))
+  where
+    source : keeps (refuse (ltb (badRoot ws0 eroots) (length eroots)) (BadRoot (badRoot ws0 eroots) 1)) ≡ false
+    source = keeps-refuse (ltb (badRoot ws0 eroots) (length eroots)) (BadRoot (badRoot ws0 eroots) 1) refl
+
+    target : keeps (refuse (ltb (badRoot ws1 troots) (length troots)) (BadRoot (badRoot ws1 troots) 2)) ≡ false
+    target = keeps-refuse (ltb (badRoot ws1 troots) (length troots)) (BadRoot (badRoot ws1 troots) 2) refl
+keeps-bits false ws0 eroots ws1 troots = keeps-first [] tt
+
+pub keeps-forms : (strict : Bool) (S : SourceGraph) (T : TargetGraph) (eroots troots : List ℕ)
+    → keeps (firstRefusal (formAnswers strict S T eroots troots)) ≡ false
+keeps-forms strict S T eroots troots = go (isAccepted graphs) refl
+  where
+    graphs : Answer
+    graphs = firstRefusal (graphAnswers S T (sourceIll S) (targetIll T))
+
+    go : (b : Bool) → isAccepted graphs ≡ b → keeps (firstRefusal (formAnswers strict S T eroots troots)) ≡ false
+    go true e = rw (refusal-append (graphAnswers S T (sourceIll S) (targetIll T)) (bitAnswers strict (sourceRowWidths S) eroots (targetRowWidths T) troots), e) (keeps-bits strict (sourceRowWidths S) eroots (targetRowWidths T) troots)
+    go false e = rw (refusal-append (graphAnswers S T (sourceIll S) (targetIll T)) (bitAnswers strict (sourceRowWidths S) eroots (targetRowWidths T) troots), e) (keeps-graphs S T (sourceIll S) (targetIll T))
 
 keeps-kind : (B : Binding) (N : Noted) (i r : ℕ) (k : Kind) → keeps (kindAnswer B N i r k) ≡ false
 keeps-kind B N i r (var w) = keeps-matched (varMatches (B .target .rows) (N .classes) w r) (VarClass i) refl

@@ -1,4 +1,4 @@
--- The outcome of Check, refusal by refusal, and what each step promises the next. Assumes nothing.
+-- The outcome of Check and of the strict check, refusal by refusal, and what each step promises the next. Assumes nothing.
 use Prim.Native.Nat.{ℕ, _*_, _-_, _≤_}
 use mathlib.Core.Path.{_≡_, refl, sym, ap, _∙_}
 use mathlib.Core.Bool.{Bool, true, false}
@@ -19,46 +19,38 @@ use Rattle.wf.specs.Widths.{rowWidth, widths}
 use Rattle.wf.proofs.Promise.{well-formed}
 use Rattle.lowering.specs.Tables.{readCount, readVar, callCount, callVar, readOffsets}
 use Rattle.lowering.specs.Lowering.{Lowering, sourceRows, targetRows}
-use Rattle.lowering.specs.Check.{widthsOfSource, widthsOfTarget, sourceIll, targetIll, noClasses, classesOfReads, classes, offsets, refuse, firstRefusal, countAnswers, graphAnswers, graphsAnswer, matchAnswers, checkAnswer, check}
+use Rattle.lowering.specs.Check.{widthsOfSource, widthsOfTarget, sourceIll, targetIll, noClasses, classesOfReads, classes, offsets, refuse, firstRefusal, countAnswers, graphAnswers, bitAnswers, formAnswers, matchAnswers, checkAnswerBy, checkBy}
 use Rattle.lowering.proofs.Classes.{classes-keep-length}
-use Rattle.lowering.proofs.Inversion.{Each, each, not-refused}
+use Rattle.lowering.proofs.Inversion.{Each, each, each-append, none-refused, not-refused}
 use Rattle.lowering.proofs.Marks.{marks-length}
 use Rattle.lowering.proofs.Refusals.{refusal-append}
 use Rattle.matching.specs.Ready.{Formed}
-use Rattle.forms.proofs.Form.{no-stop-source, no-stop-target}
-use Rattle.checker.proofs.Keeps.{keeps-count, keeps-graphs, keeps-match}
-
--- a list of widths has one for each row, and stands in front
-pub width-count : (graph : Graph) (nbits : ℕ) (side g : List ℕ) → length (widths graph nbits side g) ≡ rowCount graph g
-width-count graph nbits side g = build-length (rowWidth graph nbits side g) (rowCount graph g)
-
-pub widths-front : (graph : Graph) (nbits n : ℕ) (side g ws rest : List ℕ) → n ≡ rowCount graph g → ws ≡ widths graph nbits side g ++ rest
-    → take n ws ≡ widths graph nbits side g
-widths-front graph nbits n side g ws rest e q = rw (e, q) (take-at (widths graph nbits side g) rest (rowCount graph g) (width-count graph nbits side g))
+use Rattle.forms.proofs.Form.{width-count, widths-front, no-stop-source, no-stop-target}
+use Rattle.checker.proofs.Keeps.{keeps-count, keeps-forms, keeps-match}
 
 -- cleared after the last row
 pub widths-cleared : (graph : Graph) (nbits n k : ℕ) (side g ws rest after : List ℕ) → n ≡ rowCount graph g → ws ≡ widths graph nbits side g ++ rest → length ws ≡ k
     → after ≡ take n ws ++ replicate (length ws - n) 0 → after ≡ widths graph nbits side g ++ replicate (k - rowCount graph g) 0
 widths-cleared graph nbits n k side g ws rest after e q l f = f ∙ rw (widths-front graph nbits n side g ws rest e q, l, e)
 
-module _ (L : Lowering) (ws0 ws1 cls ent : List ℕ) where
+module _ (strict : Bool) (L : Lowering) (ws0 ws1 cls ent : List ℕ) where
   abbrev pub counts : Answer
   counts = firstRefusal (countAnswers (L .source) (L .target) (length ws0) (length ws1) (length cls) (length ent))
 
   abbrev pub forms : Answer
-  forms = graphsAnswer (L .source) (L .target)
+  forms = firstRefusal (formAnswers strict (L .source) (L .target) (L .eroots) (L .troots))
 
   abbrev pub matching : Answer
   matching = firstRefusal (matchAnswers L)
 
   abbrev pub whole : Answer
-  whole = checkAnswer L (length ws0) (length ws1) (length cls) (length ent)
+  whole = checkAnswerBy strict L (length ws0) (length ws1) (length cls) (length ent)
 
   pub whole-is : whole ≡ andThen counts (andThen forms matching)
   whole-is =
       refusal-append (countAnswers (L .source) (L .target) (length ws0) (length ws1) (length cls) (length ent))
-      (graphAnswers (L .source) (L .target) (sourceIll (L .source)) (targetIll (L .target)) ++ matchAnswers L)
-      ∙ ap (andThen counts) (refusal-append (graphAnswers (L .source) (L .target) (sourceIll (L .source)) (targetIll (L .target))) (matchAnswers L))
+      (formAnswers strict (L .source) (L .target) (L .eroots) (L .troots) ++ matchAnswers L)
+      ∙ ap (andThen counts) (refusal-append (formAnswers strict (L .source) (L .target) (L .eroots) (L .troots)) (matchAnswers L))
 
   -- after the counts no refusal is one that writes nothing
   pub keeps-rest : isAccepted counts ≡ true → keeps whole ≡ false
@@ -67,7 +59,7 @@ module _ (L : Lowering) (ws0 ws1 cls ent : List ℕ) where
     where
       whole-keeps : (b : Bool) → isAccepted forms ≡ b → keeps whole ≡ false
       whole-keeps true e = rw (whole-is, c, e) (keeps-match L)
-      whole-keeps false e = rw (whole-is, c, e) (keeps-graphs (L .source) (L .target) (sourceIll (L .source)) (targetIll (L .target)))
+      whole-keeps false e = rw (whole-is, c, e) (keeps-forms strict (L .source) (L .target) (L .eroots) (L .troots))
 
   -- the four lists with what acceptance writes; what a refusal leaves that zeroes them
   abbrev pub four : List (List ℕ × List ℕ)
@@ -76,33 +68,33 @@ module _ (L : Lowering) (ws0 ws1 cls ent : List ℕ) where
   abbrev cleared : List (List ℕ)
   cleared = replicate (length ws0) 0 ∷ replicate (length ws1) 0 ∷ replicate (length cls) 0 ∷ replicate (length ent) 0 ∷ []
 
-  settle : (a : Answer) (lists : List (List ℕ)) → whole ≡ a → left a four ≡ lists → result a lists ≡ check L ws0 ws1 cls ent
+  settle : (a : Answer) (lists : List (List ℕ)) → whole ≡ a → left a four ≡ lists → result a lists ≡ checkBy strict L ws0 ws1 cls ent
   settle a lists e f = sym (ap (λ (z : Answer). leaves z four) e ∙ ap (result a) f)
 
   module _ (a : Answer) where
-    zeroed : whole ≡ a → isAccepted a ≡ false → keeps a ≡ false → result a cleared ≡ check L ws0 ws1 cls ent
+    zeroed : whole ≡ a → isAccepted a ≡ false → keeps a ≡ false → result a cleared ≡ checkBy strict L ws0 ws1 cls ent
     zeroed e n k = settle a cleared e (rw (n, k))
 
-    pub count-done : a ≡ counts → isAccepted a ≡ false → result a (ws0 ∷ ws1 ∷ cls ∷ ent ∷ []) ≡ check L ws0 ws1 cls ent
+    pub count-done : a ≡ counts → isAccepted a ≡ false → result a (ws0 ∷ ws1 ∷ cls ∷ ent ∷ []) ≡ checkBy strict L ws0 ws1 cls ent
     count-done e n =
         let r : isAccepted counts ≡ false = rw e at n in
         let k : keeps a ≡ true = rw e (keeps-count (L .source) (L .target) (length ws0) (length ws1) (length cls) (length ent) r) in
         settle a _ (whole-is ∙ rw r (sym e)) (rw (n, k))
 
     module _ (c : isAccepted counts ≡ true) where
-      pub graph-done : a ≡ forms → isAccepted a ≡ false → result a cleared ≡ check L ws0 ws1 cls ent
+      pub graph-done : a ≡ forms → isAccepted a ≡ false → result a cleared ≡ checkBy strict L ws0 ws1 cls ent
       graph-done e n =
           zeroed (whole-is ∙ rw (c, rw e at n) (sym e)) n
-          (rw e (keeps-graphs (L .source) (L .target) (sourceIll (L .source)) (targetIll (L .target))))
+          (rw e (keeps-forms strict (L .source) (L .target) (L .eroots) (L .troots)))
 
       module _ (g : isAccepted forms ≡ true) where
-        pub match-done : a ≡ matching → isAccepted a ≡ false → result a cleared ≡ check L ws0 ws1 cls ent
+        pub match-done : a ≡ matching → isAccepted a ≡ false → result a cleared ≡ checkBy strict L ws0 ws1 cls ent
         match-done e n = zeroed (whole-is ∙ rw (c, g) (sym e)) n (rw e (keeps-match L))
 
         pub accept-done : a ≡ matching → isAccepted a ≡ true
             → result a ((widthsOfSource L ++ replicate (length ws0 - sourceRows L) 0) ∷ (widthsOfTarget L ++ replicate (length ws1 - targetRows L) 0)
             ∷ (classes L (sourceRows L) ++ replicate (length cls - targetRows L) 0) ∷ (offsets L ++ replicate (length ent - targetRows L) 0) ∷ [])
-            ≡ check L ws0 ws1 cls ent
+            ≡ checkBy strict L ws0 ws1 cls ent
         accept-done e n =
             let s = width-count Source (length (L .source .bits)) (L .source .side) (L .source .rows) in
             let t = width-count Target (length (L .target .bits)) [] (L .target .rows) in
@@ -143,7 +135,9 @@ module _ (L : Lowering) (ws0 ws1 cls ent : List ℕ) where
 
   -- forms that pass are well formed
   pub forms-formed : isAccepted forms ≡ true → Formed (L .source) (L .target)
-  forms-formed g =
+  forms-formed f =
+      let graphs = graphAnswers (L .source) (L .target) (sourceIll (L .source)) (targetIll (L .target)) in
+      let g = none-refused graphs (each-append graphs (bitAnswers strict (widthsOfSource L) (L .eroots) (widthsOfTarget L) (L .troots)) (each _ f) .0) in
       record {
         source-formed = well-formed Source (length (L .source .bits)) (L .source .side) (L .source .rows) (no-stop-source (L .source) (L .target) (sourceIll (L .source)) (targetIll (L .target)) g);
         target-formed = well-formed Target (length (L .target .bits)) [] (L .target .rows) (no-stop-target (L .source) (L .target) (sourceIll (L .source)) (targetIll (L .target)) g);

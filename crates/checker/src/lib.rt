@@ -1,15 +1,16 @@
-// The operation Check.
+// The operation Check, and the strict check: one function with a switch.
 ghost use mathlib.Core.Path.{_≡_};
 ghost use mathlib.Core.List.{[], _∷_};
 ghost use Rattle.answers.specs.Result.{result};
 ghost use Rattle.lowering.specs.Lowering.{lowering};
-ghost use Rattle.lowering.specs.Check.{check};
+ghost use Rattle.lowering.specs.Check.{checkBy};
 use answers::Answer;
 use rows::Graph;
 
-// Whether the target is the lowering of the source, or the first refusal by 01's order; in the four lists the widths of both graphs, the classes and
-// the entry offsets.
+// Whether the target is the lowering of the source, or the first refusal by 01's order, the strict check with 19; in the four lists the widths of both
+// graphs, the classes and the entry offsets.
 pub fn check(
+    strict: bool,
     source: &[u64],
     ebits: &[u8],
     eside: &[u64],
@@ -27,7 +28,7 @@ pub fn check(
     ent: &mut [u64],
 ) -> Answer
     ensures outcome { λ r. ⌜ result r (now (ws0 .exit) ∷ now (ws1 .exit) ∷ now (cls .exit) ∷ now (ent .exit) ∷ [])
-        ≡ check (lowering (now (source .entry)) (now (ebits .entry)) (now (eside .entry)) (now (eroots .entry)) (now (map .entry))
+        ≡ checkBy strict (lowering (now (source .entry)) (now (ebits .entry)) (now (eside .entry)) (now (eroots .entry)) (now (map .entry))
         (now (reads .entry)) (now (calls .entry)) (now (cargs .entry)) (now (target .entry)) (now (tbits .entry)) (now (troots .entry)))
         (now (ws0 .entry)) (now (ws1 .entry)) (now (cls .entry)) (now (ent .entry)) ⌝ }
 {
@@ -42,7 +43,18 @@ pub fn check(
     if !answers::is_accepted(a) {
         return a;
     }
-    let g = forms::graphs(source, ebits, eside, target, tbits, ws0, ws1);
+    let g = forms::rooted_graphs(
+        strict,
+        source,
+        ebits,
+        eside,
+        eroots,
+        target,
+        tbits,
+        troots,
+        ws0,
+        ws1,
+    );
     if !answers::is_accepted(g) {
         stages::clear_all(ws0, ws1, cls, ent);
         return g;

@@ -7,21 +7,24 @@ use native.Mathlib.Omega.{arith}
 use native.Mathlib.Decide.{decLt}
 use borrow.Author.Tests.{lt-ltb, le-ltb, ltb-true, ltb-false}
 use lib.Dec.{ltb}
-use lib.ListN.{length, drop}
+use lib.ListN.{length, take, drop}
+use lib.Seq.{take-at}
 use Rattle.answers.specs.declared.Answer.{Answer}
 use Rattle.answers.specs.declared.Answer.the-variants.{Accepted, BadRow, BadBit, Ext, Core}
-use Rattle.answers.specs.Answer.{isAccepted}
+use Rattle.answers.specs.Answer.{isAccepted, andThen}
+use Rattle.lists.proofs.Build.{build-length}
 use Rattle.lists.proofs.First.{first-le, first-all}
 use Rattle.rows.specs.declared.Graph.{Graph}
 use Rattle.rows.specs.declared.Graph.the-variants.{Source, Target}
 use Rattle.rows.specs.Row.{rowCount}
 use Rattle.encoding.specs.Encoding.{rowBad, badRow, badBit}
-use Rattle.wf.specs.Widths.{illRow, widthsTo, widths}
+use Rattle.wf.specs.Widths.{illRow, rowWidth, widthsTo, widths}
 use Rattle.wf.specs.Pass.{rowStops, stopRow}
 use Rattle.wf.proofs.Stop.{stop-none, stop-ill}
 use Rattle.lowering.proofs.Inversion.{each, not-refused}
+use Rattle.lowering.proofs.Refusals.{refusal-append}
 use Rattle.lowering.specs.Lowering.{SourceGraph, TargetGraph}
-use Rattle.lowering.specs.Check.{firstRefusal, graphAnswers, graphsAnswer}
+use Rattle.lowering.specs.Check.{sourceIll, targetIll, sourceRowWidths, targetRowWidths, firstRefusal, graphAnswers, graphsAnswer, bitAnswers, formAnswers}
 
 pub bad-row-le : (graph : Graph) (g : List ℕ) → badRow graph g ≤ rowCount graph g
 bad-row-le graph g = first-le (rowBad graph g) (rowCount graph g)
@@ -112,3 +115,26 @@ module _ (S : SourceGraph) (T : TargetGraph) (x y : ℕ) (accepts : isAccepted (
 pub widths-all : (graph : Graph) (nbits : ℕ) (side g ws : List ℕ) → rowCount graph g ≤ stopRow graph nbits side g
     → widthsTo graph nbits side g (stopRow graph nbits side g) ++ drop (stopRow graph nbits side g) ws ≡ widths graph nbits side g ++ drop (rowCount graph g) ws
 widths-all graph nbits side g ws h = rw (first-all (rowStops graph nbits side g) (rowCount graph g) h)
+
+-- a list of widths has one for each row, and stands in front
+pub width-count : (graph : Graph) (nbits : ℕ) (side g : List ℕ) → length (widths graph nbits side g) ≡ rowCount graph g
+width-count graph nbits side g = build-length (rowWidth graph nbits side g) (rowCount graph g)
+
+pub widths-front : (graph : Graph) (nbits n : ℕ) (side g ws rest : List ℕ) → n ≡ rowCount graph g → ws ≡ widths graph nbits side g ++ rest
+    → take n ws ≡ widths graph nbits side g
+widths-front graph nbits n side g ws rest e q = rw (e, q) (take-at (widths graph nbits side g) rest (rowCount graph g) (width-count graph nbits side g))
+
+-- the roots are asked where both graphs pass
+module _ (strict : Bool) (S : SourceGraph) (T : TargetGraph) (eroots troots : List ℕ) (g : Answer) (graphs : g ≡ graphsAnswer S T) where
+  forms-are : firstRefusal (formAnswers strict S T eroots troots)
+      ≡ andThen g (firstRefusal (bitAnswers strict (sourceRowWidths S) eroots (targetRowWidths T) troots))
+  forms-are =
+      refusal-append (graphAnswers S T (sourceIll S) (targetIll T)) (bitAnswers strict (sourceRowWidths S) eroots (targetRowWidths T) troots)
+      ∙ rw (← graphs)
+
+  pub graphs-refused : isAccepted g ≡ false → g ≡ firstRefusal (formAnswers strict S T eroots troots)
+  graphs-refused n = sym (forms-are ∙ rw n)
+
+  pub roots-asked : isAccepted g ≡ true → (a : Answer) (ws0 ws1 : List ℕ) → a ≡ firstRefusal (bitAnswers strict ws0 eroots ws1 troots)
+      → ws0 ≡ sourceRowWidths S → ws1 ≡ targetRowWidths T → a ≡ firstRefusal (formAnswers strict S T eroots troots)
+  roots-asked n a ws0 ws1 e p q = e ∙ rw (p, q) (sym (forms-are ∙ rw n))

@@ -1,4 +1,4 @@
-// Whether both graphs are lists of well-formed rows: counts of words, encoding, form.
+// Whether both graphs are lists of well-formed rows: counts of words, encoding, form; for the strict check also whether their roots are of one bit.
 ghost use mathlib.Core.Path.{_≡_};
 ghost use mathlib.Core.Bool.{true, false};
 ghost use mathlib.Core.List.{[], _++_};
@@ -10,7 +10,7 @@ ghost use Rattle.rows.specs.Row.{rowCount};
 ghost use Rattle.encoding.specs.Encoding.{rowBad};
 ghost use Rattle.wf.specs.Widths.{widths};
 ghost use Rattle.lowering.specs.Lowering.{SourceGraph, TargetGraph, sourceGraph, targetGraph};
-ghost use Rattle.lowering.specs.Check.{firstRefusal, countAnswers, graphAnswers, graphsAnswer};
+ghost use Rattle.lowering.specs.Check.{firstRefusal, countAnswers, graphAnswers, graphsAnswer, formAnswers};
 use answers::Answer;
 use rows::Graph;
 
@@ -90,7 +90,7 @@ fn graph_answer(
 }
 
 // The widths of both graphs, or the first refusal by 01's order; a source that is refused leaves the target's widths unasked.
-pub fn graphs(
+fn graphs(
     source: &[u64],
     ebits: &[u8],
     eside: &[u64],
@@ -122,4 +122,38 @@ pub fn graphs(
         ws1,
     );
     graph_answer(source, ebits, target, tbits, stop0, stop1)
+}
+
+// The same of two graphs with their roots, which the strict check asks to be rows of one bit.
+pub fn rooted_graphs(
+    strict: bool,
+    source: &[u64],
+    ebits: &[u8],
+    eside: &[u64],
+    eroots: &[u64],
+    target: &[u64],
+    tbits: &[u8],
+    troots: &[u64],
+    ws0: &mut [u64],
+    ws1: &mut [u64],
+) -> Answer
+    requires { ⌜ rowCount Graph.Source (now source) ≤ length (now ws0) ⌝ }
+    requires { ⌜ rowCount Graph.Target (now target) ≤ length (now ws1) ⌝ }
+    ensures answer { λ r. ⌜ r ≡ firstRefusal (formAnswers strict
+        (sourceGraph (now (source .entry)) (now (ebits .entry)) (now (eside .entry)))
+        (targetGraph (now (target .entry)) (now (tbits .entry))) (now (eroots .entry)) (now (troots .entry))) ⌝ }
+    ensures source_list { λ r. ⌜ (isAccepted r ≡ true → now (ws0 .exit)
+        ≡ widths Graph.Source (length (now (ebits .entry))) (now (eside .entry)) (now (source .entry))
+        ++ drop (rowCount Graph.Source (now (source .entry))) (now (ws0 .entry))) ⌝ }
+    ensures target_list { λ r. ⌜ (isAccepted r ≡ true → now (ws1 .exit)
+        ≡ widths Graph.Target (length (now (tbits .entry))) [] (now (target .entry))
+        ++ drop (rowCount Graph.Target (now (target .entry))) (now (ws1 .entry))) ⌝ }
+{
+    let g = graphs(source, ebits, eside, target, tbits, ws0, ws1);
+    if !answers::is_accepted(g) {
+        return g;
+    }
+    let n = rows::row_count(Graph::Source, source);
+    let m = rows::row_count(Graph::Target, target);
+    assertions::root_answer(strict, &ws0[..n], eroots, &ws1[..m], troots)
 }

@@ -7,11 +7,11 @@ ghost use Rattle.widths.specs.Widths.{sourceWidths, targetWidths, rootsAnswer};
 ghost use Rattle.values.specs.Values.{values};
 ghost use Rattle.book.specs.Book.{sectionAnswer, sectionPlace};
 ghost use Rattle.loaded.specs.Held.{held};
-ghost use Rattle.judge.specs.Judge.{judge};
+ghost use Rattle.judge.specs.Judge.{judge, strictJudge};
 ghost use Rattle.lowering.specs.Lowering.{lowering};
-ghost use Rattle.lowering.specs.Check.{check};
-ghost use Rattle.soundness.specs.Sound.{Sound};
-ghost use Rattle.soundness.specs.Choices.{SameChoices};
+ghost use Rattle.lowering.specs.Check.{check, strictCheck};
+ghost use Rattle.soundness.specs.Sound.{Sound, StrictlySound};
+ghost use Rattle.soundness.specs.Choices.{SameChoices, SameStrictChoices};
 use answers::Words;
 use book::Stretch;
 
@@ -88,7 +88,8 @@ pub extern "C" fn gilfrunt_check(
         (now (eroots .entry)) (now (map .entry)) (now (reads .entry)) (now (calls .entry)) (now (cargs .entry)) (now (target .entry))
         (now (tbits .entry)) (now (troots .entry))) (now (classes .exit))) ⌝ }
 {
-    let a = checker::check(
+    reported::check(
+        false,
         source,
         ebits,
         eside,
@@ -104,8 +105,56 @@ pub extern "C" fn gilfrunt_check(
         ws1,
         classes,
         entries,
-    );
-    answers::words_of(a)
+    )
+}
+
+#[no_mangle]
+pub extern "C" fn gilfrunt_strict_check(
+    source: &[u64],
+    ebits: &[u8],
+    eside: &[u64],
+    eroots: &[u64],
+    map: &[u64],
+    reads: &[u64],
+    calls: &[u64],
+    cargs: &[u64],
+    target: &[u64],
+    tbits: &[u8],
+    troots: &[u64],
+    ws0: &mut [u64],
+    ws1: &mut [u64],
+    classes: &mut [u64],
+    entries: &mut [u64],
+) -> Words
+    ensures outcome { λ r. ⌜ told r (now (ws0 .exit) ∷ now (ws1 .exit) ∷ now (classes .exit) ∷ now (entries .exit) ∷ [])
+        ≡ toldOf (strictCheck (lowering (now (source .entry)) (now (ebits .entry)) (now (eside .entry)) (now (eroots .entry)) (now (map .entry))
+        (now (reads .entry)) (now (calls .entry)) (now (cargs .entry)) (now (target .entry)) (now (tbits .entry)) (now (troots .entry)))
+        (now (ws0 .entry)) (now (ws1 .entry)) (now (classes .entry)) (now (entries .entry))) ⌝ }
+    ensures sound { λ r. ⌜ (r .number ≡ 0 → StrictlySound (lowering (now (source .entry)) (now (ebits .entry)) (now (eside .entry))
+        (now (eroots .entry)) (now (map .entry)) (now (reads .entry)) (now (calls .entry)) (now (cargs .entry)) (now (target .entry))
+        (now (tbits .entry)) (now (troots .entry)))) ⌝ }
+    ensures choices { λ r. ⌜ (r .number ≡ 0 → SameStrictChoices (lowering (now (source .entry)) (now (ebits .entry)) (now (eside .entry))
+        (now (eroots .entry)) (now (map .entry)) (now (reads .entry)) (now (calls .entry)) (now (cargs .entry)) (now (target .entry))
+        (now (tbits .entry)) (now (troots .entry))) (now (classes .exit))) ⌝ }
+{
+    reported::check(
+        true,
+        source,
+        ebits,
+        eside,
+        eroots,
+        map,
+        reads,
+        calls,
+        cargs,
+        target,
+        tbits,
+        troots,
+        ws0,
+        ws1,
+        classes,
+        entries,
+    )
 }
 
 #[no_mangle]
@@ -139,6 +188,24 @@ pub extern "C" fn gilfrunt_judge(
     ensures sound { λ r. ⌜ (r .number ≡ 0 → Sound (held (now (book .entry)))) ⌝ }
     ensures choices { λ r. ⌜ (r .number ≡ 0 → SameChoices (held (now (book .entry))) (now (classes .exit))) ⌝ }
 {
-    let a = judge::judge(book, ws0, ws1, classes, entries, words);
-    answers::words_of(a)
+    reported::judge(false, book, ws0, ws1, classes, entries, words)
+}
+
+#[no_mangle]
+pub extern "C" fn gilfrunt_strict_judge(
+    book: &[u8],
+    ws0: &mut [u64],
+    ws1: &mut [u64],
+    classes: &mut [u64],
+    entries: &mut [u64],
+    words: &mut [u64],
+) -> Words
+    ensures outcome { λ r. ⌜ told r (now (ws0 .exit) ∷ now (ws1 .exit) ∷ now (classes .exit) ∷ now (entries .exit)
+        ∷ now (words .exit) ∷ [])
+        ≡ toldOf (strictJudge (now (book .entry)) (now (ws0 .entry)) (now (ws1 .entry)) (now (classes .entry)) (now (entries .entry))
+        (now (words .entry))) ⌝ }
+    ensures sound { λ r. ⌜ (r .number ≡ 0 → StrictlySound (held (now (book .entry)))) ⌝ }
+    ensures choices { λ r. ⌜ (r .number ≡ 0 → SameStrictChoices (held (now (book .entry))) (now (classes .exit))) ⌝ }
+{
+    reported::judge(true, book, ws0, ws1, classes, entries, words)
 }

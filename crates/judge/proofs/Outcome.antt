@@ -11,13 +11,13 @@ use Rattle.answers.specs.declared.Answer.the-variants.{Accepted, WorkShort, Boo
 use Rattle.answers.specs.Answer.{isAccepted, keeps, andThen}
 use Rattle.answers.specs.Result.{Result, result, left, leaves}
 use Rattle.lists.proofs.Choice.{no-way}
-use Rattle.lowering.specs.Check.{refuse, firstRefusal, countAnswers, checkAnswer, check}
+use Rattle.lowering.specs.Check.{refuse, firstRefusal, countAnswers, checkAnswerBy, checkBy}
 use Rattle.checker.proofs.Keeps.{keeps-count}
 use Rattle.checker.proofs.Outcome.{four, keeps-rest}
 use Rattle.contents.specs.Contents.{sections, contents}
 use Rattle.book.specs.Book.{dueAt, firstBad, bookAnswer}
 use Rattle.loaded.specs.Held.{held, bookWords}
-use Rattle.judge.specs.Judge.{judgeAnswer, judge}
+use Rattle.judge.specs.Judge.{judgeAnswerBy, judgeBy}
 
 -- 20 is not among the refusals that write nothing
 keeps-book : (b : List ℕ) → keeps (bookAnswer b) ≡ false
@@ -44,7 +44,7 @@ refuses-one a b rest e = go (isAccepted a) refl e
     go true f g = rw g
     go false f g = refl
 
-module _ (b ws0 ws1 cls ent words : List ℕ) where
+module _ (strict : Bool) (b ws0 ws1 cls ent words : List ℕ) where
   abbrev counts : Answer
   counts = firstRefusal (countAnswers (held b .source) (held b .target) (length ws0) (length ws1) (length cls) (length ent))
 
@@ -55,22 +55,22 @@ module _ (b ws0 ws1 cls ent words : List ℕ) where
   room = andThen counts short
 
   abbrev checked : Answer
-  checked = checkAnswer (held b) (length ws0) (length ws1) (length cls) (length ent)
+  checked = checkAnswerBy strict (held b) (length ws0) (length ws1) (length cls) (length ent)
 
   abbrev whole : Answer
-  whole = judgeAnswer b (length ws0) (length ws1) (length cls) (length ent) (length words)
+  whole = judgeAnswerBy strict b (length ws0) (length ws1) (length cls) (length ent) (length words)
 
   -- Check's lists and the book's words, with what acceptance writes
   abbrev five : List (List ℕ × List ℕ)
-  five = four (held b) ws0 ws1 cls ent ++ ((words, bookWords b) ∷ [])
+  five = four strict (held b) ws0 ws1 cls ent ++ ((words, bookWords b) ∷ [])
 
-  settle : (a : Answer) (lists : List (List ℕ)) → whole ≡ a → left a five ≡ lists → result a lists ≡ judge b ws0 ws1 cls ent words
+  settle : (a : Answer) (lists : List (List ℕ)) → whole ≡ a → left a five ≡ lists → result a lists ≡ judgeBy strict b ws0 ws1 cls ent words
   settle a lists e f = sym (ap (λ (z : Answer). leaves z five) e ∙ ap (result a) f)
 
   module _ (a : Answer) where
     pub shape-done : a ≡ bookAnswer b → isAccepted a ≡ false
         → result a (replicate (length ws0) 0 ∷ replicate (length ws1) 0 ∷ replicate (length cls) 0 ∷ replicate (length ent) 0 ∷ replicate (length words) 0 ∷ [])
-        ≡ judge b ws0 ws1 cls ent words
+        ≡ judgeBy strict b ws0 ws1 cls ent words
     shape-done e n =
         let r : isAccepted (bookAnswer b) ≡ false = rw e at n in
         let k : keeps a ≡ false = rw e (keeps-book b) in
@@ -88,28 +88,28 @@ module _ (b ws0 ws1 cls ent words : List ℕ) where
               short-keeps false m = no-way m
           go false e m = keeps-count (held b .source) (held b .target) (length ws0) (length ws1) (length cls) (length ent) e
 
-      pub room-done : a ≡ room → isAccepted a ≡ false → result a (ws0 ∷ ws1 ∷ cls ∷ ent ∷ words ∷ []) ≡ judge b ws0 ws1 cls ent words
+      pub room-done : a ≡ room → isAccepted a ≡ false → result a (ws0 ∷ ws1 ∷ cls ∷ ent ∷ words ∷ []) ≡ judgeBy strict b ws0 ws1 cls ent words
       room-done e n =
           let r : isAccepted room ≡ false = rw e at n in
           let k : keeps a ≡ true = rw e (room-keeps r) in
           settle a _ (rw g (refuses-one counts short checked r) ∙ sym e) (rw (n, k))
 
-      module _ (r : isAccepted room ≡ true) (lists : List (List ℕ)) (o : result a lists ≡ check (held b) ws0 ws1 cls ent) where
+      module _ (r : isAccepted room ≡ true) (lists : List (List ℕ)) (o : result a lists ≡ checkBy strict (held b) ws0 ws1 cls ent) where
         is-checked : a ≡ checked
         is-checked = ap (λ (z : Result). z .answer) o
 
         whole-checked : whole ≡ a
         whole-checked = let p = accepts-both counts short r in rw (g, p .0, p .1) (sym is-checked)
 
-        left-checked : left a (four (held b) ws0 ws1 cls ent) ≡ lists
-        left-checked = ap (λ (z : Answer). left z (four (held b) ws0 ws1 cls ent)) is-checked ∙ sym (ap (λ (z : Result). z .lists) o)
+        left-checked : left a (four strict (held b) ws0 ws1 cls ent) ≡ lists
+        left-checked = ap (λ (z : Answer). left z (four strict (held b) ws0 ws1 cls ent)) is-checked ∙ sym (ap (λ (z : Result). z .lists) o)
 
         -- the words stay where Check accepts, and are zeroed where it refuses
         pub check-done : (x : List ℕ)
             → x ≡ cond (isAccepted a) (bookWords b ++ replicate (length words - length (bookWords b)) 0) (replicate (length words) 0)
-            → result a (lists ++ (x ∷ [])) ≡ judge b ws0 ws1 cls ent words
+            → result a (lists ++ (x ∷ [])) ≡ judgeBy strict b ws0 ws1 cls ent words
         check-done x e =
-            let k : keeps a ≡ false = rw is-checked (keeps-rest (held b) ws0 ws1 cls ent (accepts-both counts short r .0)) in
+            let k : keeps a ≡ false = rw is-checked (keeps-rest strict (held b) ws0 ws1 cls ent (accepts-both counts short r .0)) in
             settle a _ whole-checked (ap₂ (λ (ls : List (List ℕ)) (l : List ℕ). ls ++ (l ∷ [])) left-checked (rw k (sym e)))
 
   -- room for the words

@@ -1,4 +1,4 @@
--- Work lists that are long enough: Check's answer does not depend on how long they are. Assumes nothing.
+-- Work lists that are long enough: the check's answer does not depend on how long they are. Assumes nothing.
 use Prim.Native.Nat.{ℕ, _+_, _*_, _/_, _<_, _≤_}
 use mathlib.Core.Path.{_≡_, refl, sym, _∙_}
 use mathlib.Core.Bool.{Bool, true, false, cond}
@@ -11,7 +11,7 @@ use Rattle.answers.specs.declared.Answer.{Answer}
 use Rattle.answers.specs.declared.Answer.the-variants.{WorkShort, BookShape}
 use Rattle.answers.specs.Answer.{isAccepted, andThen}
 use Rattle.lowering.specs.Lowering.{Lowering, sourceRows, targetRows}
-use Rattle.lowering.specs.Check.{sourceIll, targetIll, refuse, firstRefusal, countAnswers, graphAnswers, matchAnswers, checkAnswer}
+use Rattle.lowering.specs.Check.{refuse, firstRefusal, countAnswers, formAnswers, matchAnswers, checkAnswerBy}
 use Rattle.lowering.proofs.Refusals.{refusal-append}
 use Rattle.contents.specs.Contents.{sections, contents}
 use Rattle.book.specs.Book.{dueAt, bookAnswer}
@@ -20,30 +20,30 @@ use Rattle.book.specs.Good.{Good}
 use Rattle.book.proofs.Shape.{good-book}
 use Rattle.bodies.proofs.Words.{loaded-bound, loaded-below}
 use Rattle.loaded.specs.Held.{held, bookWords}
-use Rattle.judge.specs.Judge.{judgeAnswer, longest, verdict}
+use Rattle.judge.specs.Judge.{judgeAnswerBy, longest, verdictBy}
 
-module _ (L : Lowering) (w0 w1 c e : ℕ) where
+module _ (strict : Bool) (L : Lowering) (w0 w1 c e : ℕ) where
   abbrev counts : Answer
   counts = firstRefusal (countAnswers (L .source) (L .target) w0 w1 c e)
 
   -- Check's answer begins with its counts'
-  again : andThen counts (checkAnswer L w0 w1 c e) ≡ checkAnswer L w0 w1 c e
+  again : andThen counts (checkAnswerBy strict L w0 w1 c e) ≡ checkAnswerBy strict L w0 w1 c e
   again = go (isAccepted counts) refl
     where
       rest : Answer
-      rest = firstRefusal (graphAnswers (L .source) (L .target) (sourceIll (L .source)) (targetIll (L .target)) ++ matchAnswers L)
+      rest = firstRefusal (formAnswers strict (L .source) (L .target) (L .eroots) (L .troots) ++ matchAnswers L)
 
-      split : checkAnswer L w0 w1 c e ≡ andThen counts rest
+      split : checkAnswerBy strict L w0 w1 c e ≡ andThen counts rest
       split =
           refusal-append (countAnswers (L .source) (L .target) w0 w1 c e)
-          (graphAnswers (L .source) (L .target) (sourceIll (L .source)) (targetIll (L .target)) ++ matchAnswers L)
+          (formAnswers strict (L .source) (L .target) (L .eroots) (L .troots) ++ matchAnswers L)
 
-      go : (t : Bool) → isAccepted counts ≡ t → cond t (checkAnswer L w0 w1 c e) counts ≡ checkAnswer L w0 w1 c e
+      go : (t : Bool) → isAccepted counts ≡ t → cond t (checkAnswerBy strict L w0 w1 c e) counts ≡ checkAnswerBy strict L w0 w1 c e
       go true f = refl
       go false f = sym (split ∙ rw f)
 
   enough : sourceRows L ≤ w0 → targetRows L ≤ w1 → targetRows L ≤ c → targetRows L ≤ e
-      → checkAnswer L w0 w1 c e ≡ checkAnswer L (sourceRows L) (targetRows L) (targetRows L) (targetRows L)
+      → checkAnswerBy strict L w0 w1 c e ≡ checkAnswerBy strict L (sourceRows L) (targetRows L) (targetRows L) (targetRows L)
   enough h0 h1 h2 h3 =
       let s : ltb (sourceRows L) (sourceRows L) ≡ false = le-ltb (sourceRows L) (sourceRows L) (omega arith) in
       let t : ltb (targetRows L) (targetRows L) ≡ false = le-ltb (targetRows L) (targetRows L) (omega arith) in
@@ -59,11 +59,11 @@ few-words b h g =
 pub few-in : (b : List ℕ) (i : ℕ) → length (loaded b i) + length (listOf b i) ≤ length (bookWords b) → length (bookWords b) ≤ 8170 → length (listOf b i) ≤ 8170
 few-in b i h k = omega arith
 
-module _ (b : List ℕ) (w0 w1 c e room : ℕ) (h0 : 2048 ≤ w0) (h1 : 2048 ≤ w1) (h2 : 2048 ≤ c) (h3 : 2048 ≤ e) (h4 : 8192 ≤ room) where
+module _ (strict : Bool) (b : List ℕ) (w0 w1 c e room : ℕ) (h0 : 2048 ≤ w0) (h1 : 2048 ≤ w1) (h2 : 2048 ≤ c) (h3 : 2048 ≤ e) (h4 : 8192 ≤ room) where
   module _ (h : length b ≤ longest) where
     long-enough : Good b → andThen (firstRefusal (countAnswers (held b .source) (held b .target) w0 w1 c e))
-        (andThen (refuse (ltb room (length (bookWords b))) (WorkShort 5)) (checkAnswer (held b) w0 w1 c e))
-        ≡ checkAnswer (held b) (sourceRows (held b)) (targetRows (held b)) (targetRows (held b)) (targetRows (held b))
+        (andThen (refuse (ltb room (length (bookWords b))) (WorkShort 5)) (checkAnswerBy strict (held b) w0 w1 c e))
+        ≡ checkAnswerBy strict (held b) (sourceRows (held b)) (targetRows (held b)) (targetRows (held b)) (targetRows (held b))
     long-enough g =
         let k : length (bookWords b) ≤ 8170 = few-words b h g in
         let s : length (listOf b 0) ≤ 8170 = few-in b 0 (loaded-below b sections 0 (omega arith)) k in
@@ -73,15 +73,15 @@ module _ (b : List ℕ) (w0 w1 c e room : ℕ) (h0 : 2048 ≤ w0) (h1 : 2048 ≤
         let r1 : length (listOf b 8) / 4 ≤ w1 = omega arith in
         let r2 : length (listOf b 8) / 4 ≤ c = omega arith in
         let r3 : length (listOf b 8) / 4 ≤ e = omega arith in
-        rw (le-ltb _ _ l) (again (held b) w0 w1 c e) ∙ enough (held b) w0 w1 c e r0 r1 r2 r3
+        rw (le-ltb _ _ l) (again strict (held b) w0 w1 c e) ∙ enough strict (held b) w0 w1 c e r0 r1 r2 r3
 
-    pub verdict-is : judgeAnswer b w0 w1 c e room ≡ verdict b
+    pub verdict-is : judgeAnswerBy strict b w0 w1 c e room ≡ verdictBy strict b
     verdict-is = rw (le-ltb longest (length b) h) (go (isAccepted (bookAnswer b)) refl)
       where
-        go : (t : Bool) → isAccepted (bookAnswer b) ≡ t → judgeAnswer b w0 w1 c e room
-            ≡ andThen (bookAnswer b) (checkAnswer (held b) (sourceRows (held b)) (targetRows (held b)) (targetRows (held b)) (targetRows (held b)))
+        go : (t : Bool) → isAccepted (bookAnswer b) ≡ t → judgeAnswerBy strict b w0 w1 c e room
+            ≡ andThen (bookAnswer b) (checkAnswerBy strict (held b) (sourceRows (held b)) (targetRows (held b)) (targetRows (held b)) (targetRows (held b)))
         go true g = rw g (long-enough g)
         go false g = rw g
 
-pub too-long : (b : List ℕ) → longest < length b → BookShape 13 ≡ verdict b
-too-long b h = rw (lt-ltb _ _ h)
+pub too-long : (strict : Bool) (b : List ℕ) → longest < length b → BookShape 13 ≡ verdictBy strict b
+too-long strict b h = rw (lt-ltb _ _ h)

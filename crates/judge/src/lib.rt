@@ -1,18 +1,20 @@
-// The verdict on a book: Check on the lists that it holds.
+// The verdict on a book: Check, or the strict check, on the lists that it holds.
 ghost use mathlib.Core.Path.{_≡_};
 ghost use mathlib.Core.Bool.{true};
 ghost use mathlib.Core.List.{[], _∷_};
 ghost use Rattle.answers.specs.Answer.{isAccepted};
 ghost use Rattle.answers.specs.Result.{result};
-ghost use Rattle.soundness.specs.Sound.{Sound};
-ghost use Rattle.soundness.specs.Choices.{classesLeft, SameChoices};
+ghost use Rattle.meaning.specs.Meaning.{truth};
+ghost use Rattle.soundness.specs.Sound.{SoundBy};
+ghost use Rattle.soundness.specs.Choices.{classesLeft, SameChoicesBy};
 ghost use Rattle.loaded.specs.Held.{held};
-ghost use Rattle.judge.specs.Judge.{judge, verdict};
+ghost use Rattle.judge.specs.Judge.{judgeBy, verdictBy};
 use answers::Answer;
 
-// A book's verdict: 20, or Check's answer on the lists that it holds; in the five lists the widths of both graphs, the classes, the entry offsets and
+// A book's verdict: 20, or the check's answer on the lists that it holds; in the five lists the widths of both graphs, the classes, the entry offsets and
 // the book's words.
 pub fn judge(
+    strict: bool,
     book: &[u8],
     ws0: &mut [u64],
     ws1: &mut [u64],
@@ -21,7 +23,7 @@ pub fn judge(
     words: &mut [u64],
 ) -> Answer
     ensures outcome { λ r. ⌜ result r (now (ws0 .exit) ∷ now (ws1 .exit) ∷ now (cls .exit) ∷ now (ent .exit) ∷ now (words .exit) ∷ [])
-        ≡ judge (now (book .entry)) (now (ws0 .entry)) (now (ws1 .entry)) (now (cls .entry)) (now (ent .entry)) (now (words .entry)) ⌝ }
+        ≡ judgeBy strict (now (book .entry)) (now (ws0 .entry)) (now (ws1 .entry)) (now (cls .entry)) (now (ent .entry)) (now (words .entry)) ⌝ }
 {
     let shape = book::book_answer(book);
     if !answers::is_accepted(shape) {
@@ -41,16 +43,17 @@ pub fn judge(
         return room;
     }
     bodies::load(book, words);
-    let a = loaded::check_loaded(book, words, ws0, ws1, cls, ent);
+    let a = loaded::check_loaded(strict, book, words, ws0, ws1, cls, ent);
     bodies::leave(book, words, answers::is_accepted(a));
     a
 }
 
 // The verdict on a whole input, with work lists that are long enough for every book of at most 65,536 bytes.
-pub fn verdict(book: &[u8]) -> Answer
-    ensures answer { λ r. ⌜ r ≡ verdict (now (book .entry)) ⌝ }
-    ensures sound { λ r. ⌜ (isAccepted r ≡ true → Sound (held (now (book .entry)))) ⌝ }
-    ensures choices { λ r. ⌜ (isAccepted r ≡ true → SameChoices (held (now (book .entry))) (classesLeft (held (now (book .entry))))) ⌝ }
+pub fn verdict(strict: bool, book: &[u8]) -> Answer
+    ensures answer { λ r. ⌜ r ≡ verdictBy strict (now (book .entry)) ⌝ }
+    ensures sound { λ r. ⌜ (isAccepted r ≡ true → SoundBy (truth strict) (held (now (book .entry)))) ⌝ }
+    ensures choices { λ r. ⌜ (isAccepted r ≡ true → SameChoicesBy (held (now (book .entry))) (truth strict)
+        (classesLeft (held (now (book .entry))))) ⌝ }
 {
     if 65536 < book.len() {
         return Answer::BookShape(13);
@@ -60,5 +63,13 @@ pub fn verdict(book: &[u8]) -> Answer
     let mut cls = [0u64; 2048];
     let mut ent = [0u64; 2048];
     let mut words = [0u64; 8192];
-    judge(book, &mut ws0, &mut ws1, &mut cls, &mut ent, &mut words)
+    judge(
+        strict,
+        book,
+        &mut ws0,
+        &mut ws1,
+        &mut cls,
+        &mut ent,
+        &mut words,
+    )
 }

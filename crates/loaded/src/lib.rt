@@ -1,4 +1,4 @@
-// Check on the lists that a book of good shape holds, once its words stand in a list.
+// Check, or the strict check, on the lists that a book of good shape holds, once its words stand in a list.
 ghost use mathlib.Core.Path.{_≡_};
 ghost use mathlib.Core.List.{[], _∷_, _++_};
 ghost use lib.Dec.{ltb};
@@ -9,7 +9,7 @@ ghost use Rattle.bodies.specs.Words.{loaded};
 ghost use Rattle.answers.specs.Answer.{andThen};
 ghost use Rattle.answers.specs.Result.{result};
 ghost use Rattle.answers.specs.declared.Answer.the-variants.{WorkShort};
-ghost use Rattle.lowering.specs.Check.{check, refuse, firstRefusal, countAnswers};
+ghost use Rattle.lowering.specs.Check.{checkBy, refuse, firstRefusal, countAnswers};
 ghost use Rattle.loaded.specs.Held.{held, bookWords};
 use answers::Answer;
 
@@ -36,8 +36,9 @@ pub fn room_answer(book: &[u8], w0: usize, w1: usize, c: usize, e: usize, room: 
     Answer::Accepted
 }
 
-// Check on the lists of a book whose words stand in a list.
+// Either check on the lists of a book whose words stand in a list.
 pub fn check_loaded(
+    strict: bool,
     book: &[u8],
     words: &[u64],
     ws0: &mut [u64],
@@ -48,9 +49,10 @@ pub fn check_loaded(
     requires { ⌜ Good (now book) ⌝ }
     requires { ⌜ now words ≡ loaded (now book) sections ++ drop (length (loaded (now book) sections)) (now words) ⌝ }
     ensures outcome { λ r. ⌜ result r (now (ws0 .exit) ∷ now (ws1 .exit) ∷ now (cls .exit) ∷ now (ent .exit) ∷ [])
-        ≡ check (held (now (book .entry))) (now (ws0 .entry)) (now (ws1 .entry)) (now (cls .entry)) (now (ent .entry)) ⌝ }
+        ≡ checkBy strict (held (now (book .entry))) (now (ws0 .entry)) (now (ws1 .entry)) (now (cls .entry)) (now (ent .entry)) ⌝ }
 {
     checker::check(
+        strict,
         bodies::list_at(book, words, 0),
         book::body(book, 1),
         bodies::list_at(book, words, 2),

@@ -1,9 +1,10 @@
 -- 01's marked cases, computed of the definitions: the twelve, with their variants, and a few more of our own. Assumes nothing.
 use Prim.Native.Nat.{ℕ, _-_}
 use mathlib.Core.Path.{_≡_, refl}
+use mathlib.Core.Bool.{true}
 use mathlib.Core.List.{List, [], _∷_}
 use Rattle.answers.specs.declared.Words.{Words}
-use Rattle.answers.specs.declared.Answer.the-variants.{Accepted, ChainMismatch, WorkShort}
+use Rattle.answers.specs.declared.Answer.the-variants.{Accepted, ChainMismatch, WorkShort, BadRoot}
 use Rattle.answers.specs.Answer.{words, wordsOf}
 use Rattle.answers.specs.Result.{Result, result}
 use Rattle.bv.specs.Bits.{ofBits}
@@ -18,7 +19,7 @@ use Rattle.lowering.specs.Tables.{sameRead, sameFunction, sameCall, read
 use Rattle.lowering.specs.Matching.{isEq, isLevel, walk, endGood, callMatches, varMatches, nodeMatches, rowAnswer, rowClasses}
 use Rattle.lowering.specs.Roots.{leads, pairsWith, pairs, readsNeed, allEqual, congruent, rootAt}
 use Rattle.lowering.specs.Lowering.{Lowering, lowering}
-use Rattle.lowering.specs.Check.{firstRefusal, check, checkAnswer}
+use Rattle.lowering.specs.Check.{firstRefusal, check, strictCheck, checkAnswer, checkAnswerBy}
 
 -- rows, one after the other
 abbrev s5 : ℕ → ℕ → ℕ → ℕ → ℕ → List ℕ → List ℕ
@@ -221,6 +222,62 @@ cases-last : answer (last-argument 16 (λ m. m)) ∷ answer (last-argument 8 (λ
     ≡ accepted ∷ words 13 0 0 ∷ words 2 5 0 ∷ []
 unfolding firstRefusal build first all agree trace rowIs bothConst sameConst unequalConst sameRead sameFunction sameCall readGood callGood isEq isLevel walk endGood callMatches varMatches nodeMatches rowAnswer rowClasses leads pairsWith pairs readsNeed allEqual congruent rootAt
 cases-last = refl
+
+-- one-bit roots (02, 2.6): what Check answers, and what the strict check does. Of the base, row 2 has one bit, row 1 has eight, and there is no row 3
+abbrev both : Lowering → List Words
+both L = answer L ∷ wordsOf (checkAnswerBy true L 20 20 20 20) ∷ []
+
+abbrev rooted : List ℕ → List ℕ → Lowering
+rooted eroots troots = base eroots (0 ∷ 1 ∷ 2 ∷ []) (1 ∷ 7 ∷ 0 ∷ []) troots
+
+case-one-bit : both (rooted (2 ∷ 2 ∷ []) (2 ∷ 2 ∷ [])) ≡ accepted ∷ accepted ∷ []
+unfolding firstRefusal build first all agree trace rowIs bothConst sameConst unequalConst sameRead sameFunction sameCall readGood callGood isEq isLevel walk endGood callMatches varMatches nodeMatches rowAnswer rowClasses leads pairsWith pairs readsNeed allEqual congruent rootAt
+case-one-bit = refl
+
+-- a source root of eight bits, which Check takes: its position, in the source
+case-eight-bits : both (rooted (2 ∷ 1 ∷ []) (2 ∷ 1 ∷ [])) ≡ accepted ∷ words 19 1 1 ∷ []
+unfolding firstRefusal build first all agree trace rowIs bothConst sameConst unequalConst sameRead sameFunction sameCall readGood callGood isEq isLevel walk endGood callMatches varMatches nodeMatches rowAnswer rowClasses leads pairsWith pairs readsNeed allEqual congruent rootAt
+case-eight-bits = refl
+
+-- the same of the target alone, behind the last root that is due
+case-target-bits : both (rooted (2 ∷ []) (2 ∷ 1 ∷ [])) ≡ words 12 0 0 ∷ words 19 1 2 ∷ []
+unfolding firstRefusal build first all agree trace rowIs bothConst sameConst unequalConst sameRead sameFunction sameCall readGood callGood isEq isLevel walk endGood callMatches varMatches nodeMatches rowAnswer rowClasses leads pairsWith pairs readsNeed allEqual congruent rootAt
+case-target-bits = refl
+
+-- roots past the rows, in the source and in the target
+cases-past : both (rooted (3 ∷ []) (2 ∷ [])) ∷ both (rooted (2 ∷ []) (2 ∷ 3 ∷ [])) ∷ []
+    ≡ (words 12 0 0 ∷ words 19 0 1 ∷ []) ∷ (words 12 0 0 ∷ words 19 1 2 ∷ []) ∷ []
+unfolding firstRefusal build first all agree trace rowIs bothConst sameConst unequalConst sameRead sameFunction sameCall readGood callGood isEq isLevel walk endGood callMatches varMatches nodeMatches rowAnswer rowClasses leads pairsWith pairs readsNeed allEqual congruent rootAt
+cases-past = refl
+
+-- both lists are bad: the source's goes first, though the target's is bad at an earlier position
+case-both-lists : both (rooted (2 ∷ 1 ∷ []) (1 ∷ 2 ∷ [])) ≡ words 12 0 0 ∷ words 19 1 1 ∷ []
+unfolding firstRefusal build first all agree trace rowIs bothConst sameConst unequalConst sameRead sameFunction sameCall readGood callGood isEq isLevel walk endGood callMatches varMatches nodeMatches rowAnswer rowClasses leads pairsWith pairs readsNeed allEqual congruent rootAt
+case-both-lists = refl
+
+-- a map that is short beside a root of eight bits: 3, and 19
+case-short-map : both (base (1 ∷ []) (0 ∷ 1 ∷ []) (1 ∷ 7 ∷ 0 ∷ []) (1 ∷ [])) ≡ words 3 3 2 ∷ words 19 0 1 ∷ []
+unfolding firstRefusal build first all agree trace rowIs bothConst sameConst unequalConst sameRead sameFunction sameCall readGood callGood isEq isLevel walk endGood callMatches varMatches nodeMatches rowAnswer rowClasses leads pairsWith pairs readsNeed allEqual congruent rootAt
+case-short-map = refl
+
+-- a target that is ill-formed beside such a root: 2 for both. Roots of one bit: both have 12 for a source root without image, 13, 14
+cases-before-after : both (lowering (s5 0 8 0 0 0 []) [] [] (0 ∷ []) (0 ∷ []) [] [] [] (t4 19 0 0 0 []) [] (0 ∷ []))
+    ∷ both (base (2 ∷ []) (0 ∷ 1 ∷ MAX ∷ []) (1 ∷ 7 ∷ 0 ∷ []) (2 ∷ []))
+    ∷ both (with-variables [] [])
+    ∷ both (base [] (0 ∷ MAX ∷ MAX ∷ []) (1 ∷ 7 ∷ 0 ∷ []) [])
+    ∷ []
+    ≡ (words 2 0 0 ∷ words 2 0 0 ∷ [])
+    ∷ (words 12 0 0 ∷ words 12 0 0 ∷ [])
+    ∷ (words 13 0 0 ∷ words 13 0 0 ∷ [])
+    ∷ (words 14 1 0 ∷ words 14 1 0 ∷ [])
+    ∷ []
+unfolding firstRefusal build first all agree trace rowIs bothConst sameConst unequalConst sameRead sameFunction sameCall readGood callGood isEq isLevel walk endGood callMatches varMatches nodeMatches rowAnswer rowClasses leads pairsWith pairs readsNeed allEqual congruent rootAt
+cases-before-after = refl
+
+-- 19 zeroes all four lists
+case-bits-zero : strictCheck (rooted (1 ∷ []) (1 ∷ [])) nines nines nines nines ≡ result (BadRoot 0 1) (zeros ∷ zeros ∷ zeros ∷ zeros ∷ [])
+unfolding firstRefusal build first all agree trace rowIs bothConst sameConst unequalConst sameRead sameFunction sameCall readGood callGood isEq isLevel walk endGood callMatches varMatches nodeMatches rowAnswer rowClasses leads pairsWith pairs readsNeed allEqual congruent rootAt
+case-bits-zero = refl
 
 -- why a dead entry is refused (docs/PROOF.md): source Var(32) twice, Select(7,0), Select(7,1), Ne(2,3), root 4, is satisfiable. The target has a third entry,
 -- variable 5, whose index Ite(Eq(5,2),1,0) mentions its own variable and which no Select reaches; with the roots that its pairs need it is not satisfiable

@@ -28,10 +28,20 @@ each (a ∷ more) e = go _ refl e (each more)
     go true q f r = (q, r f)
     go false q f r = no-way (sym f ∙ q)
 
+-- and where each accepts, the first refusal is none
+pub none-refused : (l : List Answer) → Each l → isAccepted (firstRefusal l) ≡ true
+unfolding firstRefusal
+none-refused [] e = refl
+none-refused (a ∷ more) (x, e) = rw x (none-refused more e)
+
 -- two lists, one after the other
 pub each-append : (xs ys : List Answer) → Each (xs ++ ys) → Each xs × Each ys
 each-append [] ys e = (tt, e)
 each-append (a ∷ xs) ys (x, e) = let (p, q) = each-append xs ys e in ((x, p), q)
+
+pub each-join : (xs ys : List Answer) → Each xs → Each ys → Each (xs ++ ys)
+each-join [] ys e f = f
+each-join (a ∷ xs) ys (x, e) f = (x, each-join xs ys e f)
 
 -- a test with a refusal failed
 pub not-refused : (b : Bool) (a : Answer) → isAccepted a ≡ false → isAccepted (refuse b a) ≡ true → b ≡ false

@@ -1,18 +1,19 @@
--- The operation Check (01, 'Operations and what they refuse'): its answer, and the four lists that it leaves. Assumes nothing.
+-- The operation Check (01, 'Operations and what they refuse') and the strict check beside it (02, 2.6), which are one definition with a switch: the
+-- answer, and the four lists that are left. Assumes nothing.
 use Prim.Native.Nat.{ℕ, _+_}
-use mathlib.Core.Bool.{Bool, not, cond}
+use mathlib.Core.Bool.{Bool, true, false, not, cond}
 use mathlib.Core.List.{List, [], _∷_, _++_}
 use lib.Dec.{eqb, ltb}
 use lib.ListN.{length, replicate}
 use Rattle.answers.specs.declared.Answer.{Answer}
 use Rattle.answers.specs.declared.Answer.the-variants.{Accepted, Ext, Core, RowCount, BadRow, BadBit, WorkShort, MapLength, ReadTable, CallTable}
-use Rattle.answers.specs.declared.Answer.the-variants.{DeadEntry, RootMismatch, CongruenceMismatch}
+use Rattle.answers.specs.declared.Answer.the-variants.{DeadEntry, RootMismatch, CongruenceMismatch, BadRoot}
 use Rattle.answers.specs.Answer.{isAccepted}
 use Rattle.answers.specs.Result.{Result, leaves}
 use Rattle.rows.specs.declared.Graph.the-variants.{Source, Target}
 use Rattle.rows.specs.Row.{rowCount, ragged}
 use Rattle.encoding.specs.Encoding.{badRow, badBit}
-use Rattle.wf.specs.Widths.{illRow, widths}
+use Rattle.wf.specs.Widths.{illRow, widths, badRoot}
 use Rattle.lowering.specs.Lowering.{SourceGraph, TargetGraph, Lowering, Entries, sourceRows, targetRows, bindingOf, entriesOf}
 use Rattle.lowering.specs.Tables.{readCount, callCount, badRead, badCall, readClasses, callClasses, readOffsets, callOffsets}
 use Rattle.lowering.specs.Matching.{noted, rowAnswer, classesTo, refusedRow, allRowsAnswer, deadEntry}
@@ -25,12 +26,19 @@ sourceIll S = illRow Source (length (S .bits)) (S .side) (S .rows)
 abbrev pub targetIll : TargetGraph → ℕ
 targetIll T = illRow Target (length (T .bits)) [] (T .rows)
 
+-- the widths of each graph's rows
+abbrev pub sourceRowWidths : SourceGraph → List ℕ
+sourceRowWidths S = widths Source (length (S .bits)) (S .side) (S .rows)
+
+abbrev pub targetRowWidths : TargetGraph → List ℕ
+targetRowWidths T = widths Target (length (T .bits)) [] (T .rows)
+
 module _ (L : Lowering) where
   abbrev pub widthsOfSource : List ℕ
-  widthsOfSource = widths Source (length (L .source .bits)) (L .source .side) (L .source .rows)
+  widthsOfSource = sourceRowWidths (L .source)
 
   abbrev pub widthsOfTarget : List ℕ
-  widthsOfTarget = widths Target (length (L .target .bits)) [] (L .target .rows)
+  widthsOfTarget = targetRowWidths (L .target)
 
   -- "Each target row has a class, first 0": classes before the calls, before the rows, before row n
   abbrev pub noClasses : List ℕ
@@ -110,6 +118,16 @@ graphAnswers S T ill0 ill1 =
 abbrev pub graphsAnswer : SourceGraph → TargetGraph → Answer
 graphsAnswer S T = firstRefusal (graphAnswers S T (sourceIll S) (targetIll T))
 
+-- "It looks at source roots, then target roots, with 19 BadRoot (position; detail 1 source, 2 target)" (02, 2.6), each by the widths of its graph's
+-- rows; 01's Check: "Roots' widths are not examined by the checker"
+abbrev pub bitAnswers : Bool → List ℕ → List ℕ → List ℕ → List ℕ → List Answer
+bitAnswers strict ws0 eroots ws1 troots =
+    cond strict
+    (refuse (ltb (badRoot ws0 eroots) (length eroots)) (BadRoot (badRoot ws0 eroots) 1)
+    ∷ refuse (ltb (badRoot ws1 troots) (length troots)) (BadRoot (badRoot ws1 troots) 2)
+    ∷ [])
+    []
+
 -- "12 RootMismatch; 13 CongruenceMismatch (position in the target root list, possibly its length); 12 for surplus roots."
 -- The place of 12 is the position of the first source root that has no image, differs or finds the list ended; roots left over have none
 abbrev pub rootAnswers : Entries → TargetGraph → List ℕ → List ℕ → List ℕ → List ℕ → List Answer
@@ -143,16 +161,30 @@ matchAnswers L =
     ∷ refuse (ltb (deadVariable L) (targetRows L)) (DeadEntry (deadVariable L))
     ∷ rootAnswers (entriesOf L) (L .target) (widthsOfTarget L) (L .map) (L .eroots) (L .troots))
 
--- the answer, with room for some words in each of the four lists
-abbrev pub checkAnswer : Lowering → ℕ → ℕ → ℕ → ℕ → Answer
-checkAnswer L w0 w1 c e =
+-- two graphs with their roots: 19 stands "directly after target well-formedness" (02, 2.6)
+abbrev pub formAnswers : Bool → SourceGraph → TargetGraph → List ℕ → List ℕ → List Answer
+formAnswers strict S T eroots troots =
+    graphAnswers S T (sourceIll S) (targetIll T) ++ bitAnswers strict (sourceRowWidths S) eroots (targetRowWidths T) troots
+
+-- the answer, with room for some words in each of the four lists; `strict` says which of the two checks is asked
+abbrev pub checkAnswerBy : Bool → Lowering → ℕ → ℕ → ℕ → ℕ → Answer
+checkAnswerBy strict L w0 w1 c e =
     firstRefusal
-    (countAnswers (L .source) (L .target) w0 w1 c e
-    ++ (graphAnswers (L .source) (L .target) (sourceIll (L .source)) (targetIll (L .target)) ++ matchAnswers L))
+    (countAnswers (L .source) (L .target) w0 w1 c e ++ (formAnswers strict (L .source) (L .target) (L .eroots) (L .troots) ++ matchAnswers L))
+
+abbrev pub checkAnswer : Lowering → ℕ → ℕ → ℕ → ℕ → Answer
+checkAnswer L w0 w1 c e = checkAnswerBy false L w0 w1 c e
 
 -- "15 and 18 write nothing; any other refusal zeroes all four lists. Acceptance leaves widths, classes and entry offsets .., zeros after the last
 -- row"
-abbrev pub check : Lowering → List ℕ → List ℕ → List ℕ → List ℕ → Result
-check L ws0 ws1 cls ent =
-    let a = checkAnswer L (length ws0) (length ws1) (length cls) (length ent) in
+abbrev pub checkBy : Bool → Lowering → List ℕ → List ℕ → List ℕ → List ℕ → Result
+checkBy strict L ws0 ws1 cls ent =
+    let a = checkAnswerBy strict L (length ws0) (length ws1) (length cls) (length ent) in
     leaves a ((ws0, widthsOfSource L) ∷ (ws1, widthsOfTarget L) ∷ (cls, classes L (sourceRows L)) ∷ (ent, offsets L) ∷ [])
+
+-- Check, and "a strict check beside the old" (02, 2.6)
+abbrev pub check : Lowering → List ℕ → List ℕ → List ℕ → List ℕ → Result
+check L ws0 ws1 cls ent = checkBy false L ws0 ws1 cls ent
+
+abbrev pub strictCheck : Lowering → List ℕ → List ℕ → List ℕ → List ℕ → Result
+strictCheck L ws0 ws1 cls ent = checkBy true L ws0 ws1 cls ent

@@ -1,23 +1,27 @@
--- Which roots are true: those of value 1, at any width; none past the rows; no Ne of a row with itself. Assumes nothing.
+-- Which roots are true: those of value 1, at any width; by the strict truth those of one bit alone; none past the rows; no Ne of a row with itself.
+-- Assumes nothing.
 use Prim.Native.Nat.{ℕ, zero, suc, _<_, _≤_, _^_}
 use mathlib.Core.Path.{_≡_, refl, sym, ap, _∙_}
-use mathlib.Core.Bool.{true, false}
+use mathlib.Core.Bool.{Bool, true, false, cond}
 use mathlib.Core.List.{List, [], _∷_}
 use native.Mathlib.Omega.{arith}
 use borrow.Author.Tests.{eq-eqb, eqb-true}
+use lib.Dec.{eqb}
 use lib.ListN.{length, getD, List·getD-eq-default}
 use lib.Pow.{pow-pos}
 use Rattle.lists.specs.Build.{build}
+use Rattle.lists.specs.Tests.{all}
 use Rattle.lists.proofs.Build.{build-length, build-at}
 use Rattle.lists.proofs.Choice.{no-way}
 use Rattle.rows.specs.declared.Graph.the-variants.{Source, Target}
 use Rattle.rows.specs.declared.Node.the-variants.{Var, Bin}
 use Rattle.rows.specs.Row.{rowCount, rowAt}
 use Rattle.rows.specs.Node.{nodeOf}
-use Rattle.value.specs.Val.{Val, val, nat}
+use Rattle.value.specs.Val.{Val, val, wid, nat}
 use Rattle.value.specs.Operate.{operate}
 use Rattle.value.specs.Graph.{nodeValue, rowValue, value}
-use Rattle.meaning.specs.Meaning.{Interpretation, sourceNode, sourceRow, sourceValue, isTrue, RootsTrue, SourceSatisfiable, TargetSatisfiable}
+use Rattle.meaning.specs.Meaning.{Interpretation, sourceNode, sourceRow, sourceValue, isTrue, isTrueBit, RootsTrue}
+use Rattle.meaning.specs.Meaning.{SourceSatisfiable, SourceSatisfiableBy, TargetSatisfiable}
 
 -- "A root is true when its value is 1, at any width"
 pub true-one : (w n : ℕ) → isTrue (val w n) ≡ true → n ≡ 1
@@ -28,6 +32,19 @@ one-true w n e = eq-eqb n 1 e
 
 width-8 : (isTrue (val 8 3) ≡ false) × (isTrue (val 8 1) ≡ true) × (isTrue (val 8 0) ≡ false) × (isTrue (val 1 1) ≡ true)
 width-8 = (refl, refl, refl, refl)
+
+-- "Under the strict check a root is true only as a one-bit row with value 1" (02, 2.6): at one bit the two truths agree
+pub one-bit-truth : (v : Val) → wid v ≡ 1 → isTrueBit v ≡ isTrue v
+unfolding all
+one-bit-truth (val w n) e = rw (eq-eqb w 1 e) (same (eqb n 1))
+  where
+    same : (b : Bool) → cond b true false ≡ b
+    same true = refl
+    same false = refl
+
+bits-and-wider : (isTrueBit (val 1 1) ≡ true) × (isTrueBit (val 1 0) ≡ false) × (isTrueBit (val 8 1) ≡ false) × (isTrueBit (val 0 1) ≡ false)
+unfolding all
+bits-and-wider = (refl, refl, refl, refl)
 
 -- a root that is not true
 not-true : (values : ℕ → Val) (roots : List ℕ) (k : ℕ) → k < length roots → isTrue (values (getD roots k 0)) ≡ false → RootsTrue values roots → ⊥
@@ -99,6 +116,11 @@ one-satisfies = (given 1, record { variables-fit = one-fits; cells-fit = λ a x.
 target-three : RootsTrue (value [] (λ i. 3) (0 ∷ 8 ∷ 0 ∷ 0 ∷ [])) (0 ∷ []) → ⊥
 unfolding build
 target-three = not-true (value [] (λ i. 3) (0 ∷ 8 ∷ 0 ∷ 0 ∷ [])) (0 ∷ []) 0 (omega arith) refl
+
+-- and by the strict truth no value does
+eight-bits-false : SourceSatisfiableBy isTrueBit source-8 [] [] (0 ∷ []) → ⊥
+unfolding build all
+eight-bits-false (I, kind, r) = no-way (sym (r 0 (omega arith)))
 
 -- Var(8), Ne(0, 0), roots [1]: unsatisfiable; roots [2], past the rows: unsatisfiable
 source-unsatisfiable : SourceSatisfiable (0 ∷ 8 ∷ 0 ∷ 0 ∷ 0 ∷ 20 ∷ 0 ∷ 0 ∷ 0 ∷ 0 ∷ []) [] [] (1 ∷ []) → ⊥

@@ -2,18 +2,19 @@
 -- Assumes nothing.
 use Prim.Native.Nat.{ℕ, zero, suc, _+_, _<_, _^_}
 use mathlib.Core.Path.{_≡_}
-use mathlib.Core.Bool.{Bool, true, cond}
-use mathlib.Core.List.{List}
+use mathlib.Core.Bool.{Bool, true, false, cond}
+use mathlib.Core.List.{List, [], _∷_}
 use lib.Dec.{eqb}
 use lib.ListN.{length, getD}
 use Rattle.lists.specs.Build.{build}
+use Rattle.lists.specs.Tests.{all}
 use Rattle.lists.specs.Trace.{tabulate}
 use Rattle.rows.specs.declared.Graph.the-variants.{Source}
 use Rattle.rows.specs.declared.Node.{Node}
 use Rattle.rows.specs.declared.Node.the-variants.{Var, Const, Un, Bin, Extract, Extend, Ite, Select, Call, Unknown}
 use Rattle.rows.specs.Row.{rowCount, rowAt}
 use Rattle.rows.specs.Node.{nodeOf}
-use Rattle.value.specs.Val.{Val, val, nat}
+use Rattle.value.specs.Val.{Val, val, wid, nat}
 use Rattle.value.specs.Graph.{nodeValue, value, Assigns}
 use Rattle.rules.specs.Rule.{cellWidth}
 
@@ -63,12 +64,31 @@ sourceValue g bits side I i = getD (sourceValues g bits side I (rowCount Source 
 abbrev pub isTrue : Val → Bool
 isTrue v = eqb (nat v) 1
 
+-- "Under the strict check a root is true only as a one-bit row with value 1" (02, 2.6)
+abbrev pub isTrueBit : Val → Bool
+isTrueBit v = all (eqb (wid v) 1 ∷ eqb (nat v) 1 ∷ [])
+
+-- by the check that is asked, the strict one or the other
+abbrev pub truth : Bool → Val → Bool
+truth true v = isTrueBit v
+truth false v = isTrue v
+
+-- every root is true, by some truth
+abbrev pub RootsTrueBy : (Val → Bool) → (ℕ → Val) → List ℕ → Type 0
+RootsTrueBy holds values roots = (k : ℕ) → k < length roots → holds (values (getD roots k 0)) ≡ true
+
 abbrev pub RootsTrue : (ℕ → Val) → List ℕ → Type 0
-RootsTrue values roots = (k : ℕ) → k < length roots → isTrue (values (getD roots k 0)) ≡ true
+RootsTrue values roots = RootsTrueBy isTrue values roots
 
 -- "A graph with its roots is satisfiable when some interpretation of it, for a target some assignment, makes every root true"
+abbrev pub SourceSatisfiableBy : (Val → Bool) → List ℕ → List ℕ → List ℕ → List ℕ → Type 0
+SourceSatisfiableBy holds g bits side roots = (I : Interpretation) × OfKind I g × RootsTrueBy holds (sourceValue g bits side I) roots
+
+abbrev pub TargetSatisfiableBy : (Val → Bool) → List ℕ → List ℕ → List ℕ → Type 0
+TargetSatisfiableBy holds g bits roots = (given : ℕ → ℕ) × Assigns given g × RootsTrueBy holds (value bits given g) roots
+
 abbrev pub SourceSatisfiable : List ℕ → List ℕ → List ℕ → List ℕ → Type 0
-SourceSatisfiable g bits side roots = (I : Interpretation) × OfKind I g × RootsTrue (sourceValue g bits side I) roots
+SourceSatisfiable g bits side roots = SourceSatisfiableBy isTrue g bits side roots
 
 abbrev pub TargetSatisfiable : List ℕ → List ℕ → List ℕ → Type 0
-TargetSatisfiable g bits roots = (given : ℕ → ℕ) × Assigns given g × RootsTrue (value bits given g) roots
+TargetSatisfiable g bits roots = TargetSatisfiableBy isTrue g bits roots

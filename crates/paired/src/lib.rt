@@ -1,4 +1,4 @@
-// Check, the operation on two graphs: takes its lists from a case, calls the library, and compares the outcome.
+// Check and the strict check, the operations on two graphs: takes the lists from a case, calls the library, and compares the outcome.
 ghost use mathlib.Core.Path.{_≡_};
 ghost use mathlib.Core.Bool.{true};
 ghost use mathlib.Core.List.{[], _∷_};
@@ -10,6 +10,7 @@ ghost use Rattle.paired.specs.Paired.{checkOf, SameCheck, CheckAgrees};
 use answers::Words;
 
 fn call_check(
+    strict: bool,
     words: &[u64],
     ebits: &[u8],
     tbits: &[u8],
@@ -19,21 +20,49 @@ fn call_check(
     entries: &mut [u64],
 ) -> Words
     ensures outcome { λ r. ⌜ told r (now (ws0 .exit) ∷ now (ws1 .exit) ∷ now (classes .exit) ∷ now (entries .exit) ∷ [])
-        ≡ toldOf (checkOf (now (words .entry)) (now (ebits .entry)) (now (tbits .entry))
+        ≡ toldOf (checkOf strict (now (words .entry)) (now (ebits .entry)) (now (tbits .entry))
         (now (ws0 .entry)) (now (ws1 .entry)) (now (classes .entry)) (now (entries .entry))) ⌝ }
 {
+    let source = cases::given(words, 0);
+    let eside = cases::given(words, 2);
+    let eroots = cases::given(words, 3);
+    let map = cases::given(words, 4);
+    let reads = cases::given(words, 5);
+    let calls = cases::given(words, 6);
+    let cargs = cases::given(words, 7);
+    let target = cases::given(words, 8);
+    let troots = cases::given(words, 10);
+    if strict {
+        return gilfrunt::gilfrunt_strict_check(
+            source,
+            ebits,
+            eside,
+            eroots,
+            map,
+            reads,
+            calls,
+            cargs,
+            target,
+            tbits,
+            troots,
+            ws0,
+            ws1,
+            classes,
+            entries,
+        );
+    }
     gilfrunt::gilfrunt_check(
-        cases::given(words, 0),
+        source,
         ebits,
-        cases::given(words, 2),
-        cases::given(words, 3),
-        cases::given(words, 4),
-        cases::given(words, 5),
-        cases::given(words, 6),
-        cases::given(words, 7),
-        cases::given(words, 8),
+        eside,
+        eroots,
+        map,
+        reads,
+        calls,
+        cargs,
+        target,
         tbits,
-        cases::given(words, 10),
+        troots,
         ws0,
         ws1,
         classes,
@@ -43,6 +72,7 @@ fn call_check(
 
 // Calls on copies of the case's bits and lent lists, and compares the answer and the four lists.
 fn same_check(
+    strict: bool,
     words: &[u64],
     ebits: &[u8],
     tbits: &[u8],
@@ -51,10 +81,10 @@ fn same_check(
     classes: &mut [u64],
     entries: &mut [u64],
 ) -> bool
-    ensures agreed { λ r. ⌜ (r ≡ true → SameCheck (now (words .entry)) (now (ebits .entry)) (now (tbits .entry))
+    ensures agreed { λ r. ⌜ (r ≡ true → SameCheck strict (now (words .entry)) (now (ebits .entry)) (now (tbits .entry))
         (now (ws0 .entry)) (now (ws1 .entry)) (now (classes .entry)) (now (entries .entry))) ⌝ }
 {
-    let a = call_check(words, ebits, tbits, ws0, ws1, classes, entries);
+    let a = call_check(strict, words, ebits, tbits, ws0, ws1, classes, entries);
     if !cases::same_answer(words, a) {
         return false;
     }
@@ -65,9 +95,9 @@ fn same_check(
 }
 
 // With copies of the lent lists, 11 to 14.
-fn lowering_agrees(words: &[u64], ebits: &[u8], tbits: &[u8]) -> bool
+fn lowering_agrees(strict: bool, words: &[u64], ebits: &[u8], tbits: &[u8]) -> bool
     requires { ⌜ length (now words) ≤ room ⌝ }
-    ensures agreed { λ r. ⌜ (r ≡ true → SameCheck (now (words .entry)) (now (ebits .entry)) (now (tbits .entry))
+    ensures agreed { λ r. ⌜ (r ≡ true → SameCheck strict (now (words .entry)) (now (ebits .entry)) (now (tbits .entry))
         (given (now (words .entry)) 11) (given (now (words .entry)) 12) (given (now (words .entry)) 13) (given (now (words .entry)) 14)) ⌝ }
 {
     let mut ws0 = [0u64; cases::ROOM];
@@ -79,6 +109,7 @@ fn lowering_agrees(words: &[u64], ebits: &[u8], tbits: &[u8]) -> bool
     let n2 = copies::lend(cases::given(words, 13), &mut classes);
     let n3 = copies::lend(cases::given(words, 14), &mut entries);
     same_check(
+        strict,
         words,
         ebits,
         tbits,
@@ -89,10 +120,10 @@ fn lowering_agrees(words: &[u64], ebits: &[u8], tbits: &[u8]) -> bool
     )
 }
 
-// Check: the bits are lists 1 and 9, the lent lists are 11 to 14.
-pub fn check_agrees(words: &[u64]) -> bool
+// Either check: the bits are lists 1 and 9, the lent lists are 11 to 14.
+pub fn check_agrees(strict: bool, words: &[u64]) -> bool
     requires { ⌜ length (now words) ≤ room ⌝ }
-    ensures agreed { λ r. ⌜ (r ≡ true → CheckAgrees (now (words .entry))) ⌝ }
+    ensures agreed { λ r. ⌜ (r ≡ true → CheckAgrees strict (now (words .entry))) ⌝ }
 {
     if !cases::has_shape(words, 15, 4) {
         return false;
@@ -109,5 +140,5 @@ pub fn check_agrees(words: &[u64]) -> bool
     if !copies::copy_bytes(bits_too, &mut tbits) {
         return false;
     }
-    lowering_agrees(words, &ebits[..n], &tbits[..m])
+    lowering_agrees(strict, words, &ebits[..n], &tbits[..m])
 }

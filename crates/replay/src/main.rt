@@ -89,11 +89,11 @@ fn replay(text: &[u8]) -> Count
 fn cut(n: usize) -> usize
     ensures most { λ r. ⌜ r ≤ 1 ⌝ }
 {
-    if n < 262144 { 0 } else { 1 }
+    if n < 393216 { 0 } else { 1 }
 }
 
 fn main() {
-    let mut buf = [0u8; 262144];
+    let mut buf = [0u8; 393216];
     let n = io::read_full(STDIN_FILENO, &mut buf);
     let c = replay(&buf[..n]);
     print_number(b"cases ", c.cases);

@@ -9,11 +9,12 @@ use lib.Dec.{eqb}
 use lib.ListN.{getD}
 use lib.Pow.{pow-pos}
 use Rattle.rows.specs.Row.{MAX}
+use Rattle.value.specs.Val.{Val}
 use Rattle.value.specs.Graph.{Assigns}
 use Rattle.meaning.specs.Meaning.{Interpretation, OfKind}
 use Rattle.lowering.specs.Images.{mapAt}
 use Rattle.lowering.specs.Lowering.{Lowering, targetRows}
-use Rattle.soundness.specs.Choices.{Within, UnmappedVar, ClassZeroVar, AgreesOnUnmapped, AgreesOnClassZero, SameChoices}
+use Rattle.soundness.specs.Choices.{Within, UnmappedVar, ClassZeroVar, AgreesOnUnmapped, AgreesOnClassZero, SameChoicesBy}
 use Rattle.soundness.proofs.Accepted.{zero-fits}
 
 module _ (L : Lowering) where
@@ -47,8 +48,9 @@ module _ (L : Lowering) where
   unmapped-has p i w (h, k, e) = rw (eq-eqb _ _ k)
 
   -- lists of classes that are equal up to the last row have the same variables in class 0
-  pub by-classes : (cls left : List ℕ) → ((r : ℕ) → r < targetRows L → getD left r 0 ≡ getD cls r 0) → SameChoices L cls → SameChoices L left
-  by-classes cls left same choices u p q free-p free-q =
+  pub by-classes : (holds : Val → Bool) (cls left : List ℕ) → ((r : ℕ) → r < targetRows L → getD left r 0 ≡ getD cls r 0)
+      → SameChoicesBy L holds cls → SameChoicesBy L holds left
+  by-classes holds cls left same choices u p q free-p free-q =
       let (f, g) = choices u p q free-p (λ r w (h, c, e). free-q r w (h, same r h ∙ c, e)) in (
         λ o. let (A, t, a, z) = f o in (A, t, a, λ r w (h, c, e). z r w (h, sym (same r h) ∙ c, e)),
         λ (A, t, a, z). g (A, t, a, λ r w (h, c, e). z r w (h, same r h ∙ c, e)),

@@ -2,6 +2,7 @@
 -- satisfiable, by one function 3 that gives 8 bits and another that gives 16. Assumes nothing.
 use Prim.Native.Nat.{ℕ, zero, suc, _<_, _^_}
 use mathlib.Core.Path.{_≡_, refl, ap, subst}
+use mathlib.Core.Bool.{false}
 use mathlib.Core.List.{List, [], _∷_}
 use native.Mathlib.Omega.{arith}
 use lib.Pow.{pow-pos}
@@ -63,7 +64,7 @@ abbrev found : Interpretation
 found = interpretation two-functions numbers zero-interpretation
 
 source-true : SourceTrue two-functions found
-source-true = backward-along two-functions room room room room (omega arith) accepted numbers zero-interpretation (zero-fits two-functions) target-true .0
+source-true = backward-along false two-functions room room room room (omega arith) accepted numbers zero-interpretation (zero-fits two-functions) target-true .0
 
 pub source-satisfiable : SourceIsSatisfiable two-functions
 source-satisfiable = (found, source-true .0, source-true .1)

@@ -14,6 +14,7 @@ pub mod Agree
 pub mod Forward
 pub mod Backward
 pub mod Reach
+pub mod Truths
 pub mod Accepted
 pub mod Choices
 pub mod Theorem

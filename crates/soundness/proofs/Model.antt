@@ -2,6 +2,7 @@
 -- is satisfiable, at the numbers given. Assumes nothing.
 use Prim.Native.Nat.{ℕ, zero, suc, _<_, _^_}
 use mathlib.Core.Path.{_≡_, refl, ap, subst}
+use mathlib.Core.Bool.{true, false}
 use mathlib.Core.List.{List, [], _∷_}
 use native.Mathlib.Omega.{arith}
 use lib.Pow.{pow-pos}
@@ -15,17 +16,17 @@ use Rattle.rows.specs.declared.Node.the-variants.{Var, Const, Un, Bin, Extract,
 use Rattle.value.specs.Val.{val}
 use Rattle.value.specs.Graph.{value, Assigns}
 use Rattle.value.specs.Operate.{operate}
-use Rattle.meaning.specs.Meaning.{Interpretation, RootsTrue, stored, sourceValues}
+use Rattle.meaning.specs.Meaning.{Interpretation, isTrueBit, RootsTrue, stored, sourceValues}
 use Rattle.lowering.specs.Images.{rowIs, bothConst, sameConst, unequalConst}
 use Rattle.lowering.specs.Tables.{sameRead, sameFunction, sameCall, readGood, callGood}
 use Rattle.lowering.specs.Matching.{isEq, isLevel, walk, endGood, callMatches, varMatches, nodeMatches, rowAnswer, rowClasses}
 use Rattle.lowering.specs.Roots.{leads, pairsWith, pairs, readsNeed, allEqual, congruent, rootAt}
 use Rattle.lowering.specs.Lowering.{Lowering, lowering}
 use Rattle.lowering.specs.Check.{firstRefusal}
-use Rattle.soundness.specs.Sound.{Accepts, SourceTrue, TargetTrue, SourceIsSatisfiable}
+use Rattle.soundness.specs.Sound.{Accepts, StrictlyAccepts, SourceTrue, SourceTrueBy, TargetTrue, TargetTrueBy, SourceIsSatisfiable}
 use Rattle.soundness.specs.Transfer.{readHit, interpretation}
 use Rattle.soundness.proofs.Accepted.{zero-interpretation, zero-fits}
-use Rattle.soundness.proofs.Theorem.{backward-along}
+use Rattle.soundness.proofs.Theorem.{truths-agree, backward-along}
 
 -- source Var(32) twice, Select(7,0), Select(7,1), Ne(2,3), root 4; target Var(32) twice, Var(8) twice, Ne(2,3), Eq(0,1), Not(5), Eq(2,3), BoolOr(6,7),
 -- roots 4 and, for the two reads, 8
@@ -84,10 +85,21 @@ abbrev pub found : Interpretation
 found = interpretation two-reads numbers zero-interpretation
 
 pub source-true : SourceTrue two-reads found
-source-true = backward-along two-reads room room room room (omega arith) accepted numbers zero-interpretation (zero-fits two-reads) target-true .0
+source-true = backward-along false two-reads room room room room (omega arith) accepted numbers zero-interpretation (zero-fits two-reads) target-true .0
 
 pub source-satisfiable : SourceIsSatisfiable two-reads
 source-satisfiable = (found, source-true .0, source-true .1)
+
+-- the strict check accepts the lowering too, and the strict truth holds of the same numbers on both sides (02, 2.6)
+strictly : StrictlyAccepts two-reads room room room room
+unfolding firstRefusal build first all agree trace rowIs bothConst sameConst unequalConst sameRead sameFunction sameCall readGood callGood isEq isLevel walk endGood callMatches varMatches nodeMatches rowAnswer rowClasses leads pairsWith pairs readsNeed allEqual congruent rootAt
+strictly = refl
+
+strict-target : TargetTrueBy two-reads isTrueBit numbers
+strict-target = truths-agree two-reads room room room room strictly .1 numbers .1 target-true
+
+strict-source : SourceTrueBy two-reads isTrueBit found
+strict-source = backward-along true two-reads room room room room (omega arith) strictly numbers zero-interpretation (zero-fits two-reads) strict-target .0
 
 -- and these are its rows: the indices, the bytes that the array holds there, and the root
 pub source-numbers : sourceValues (two-reads .source .rows) (two-reads .source .bits) (two-reads .source .side) found 5

@@ -157,7 +157,7 @@ z-fits roots z hz r w (h, k, e) =
 same : (roots : List ℕ) → Accepts (scan roots) room room room room → (x a y z : ℕ) → y < 2 ^ 8 → z < 2 ^ 8
     → OpenInSource (scan roots) (pick x a 0) (pick 0 0 y) ↔ OpenInTarget (scan roots) (classesLeft (scan roots)) (pick x a 0) (pick 0 0 z)
 same roots accepts x a y z hy hz =
-    same-choices (scan roots) room room room room (omega arith) accepts (pick x a 0) (pick 0 0 y) (pick 0 0 z) (y-fits y hy) (z-fits roots z hz)
+    same-choices false (scan roots) room room room room (omega arith) accepts (pick x a 0) (pick 0 0 y) (pick 0 0 z) (y-fits y hy) (z-fits roots z hz)
 
 -- Empty root lists: all that fits is open in the source, and so in the target
 no-roots : (x a z : ℕ) → x < 2 ^ 8 → a < 2 ^ 32 → z < 2 ^ 8 → OpenInTarget (scan []) (classesLeft (scan [])) (pick x a 0) (pick 0 0 z)

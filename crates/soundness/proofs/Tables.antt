@@ -12,11 +12,12 @@ use Rattle.lists.proofs.Build.{build-length}
 use Rattle.lists.proofs.Choice.{both}
 use Rattle.lists.proofs.First.{none-at}
 use Rattle.lists.proofs.Tests.{all-true}
+use Rattle.rows.specs.declared.Graph.{Graph}
 use Rattle.rows.specs.declared.Graph.the-variants.{Target}
 use Rattle.rows.specs.declared.Node.the-variants.{Var}
-use Rattle.rows.specs.Row.{rowAt}
+use Rattle.rows.specs.Row.{rowCount, rowAt}
 use Rattle.rules.specs.Rule.{indexWidth, cellWidth, hasWidth}
-use Rattle.wf.specs.Widths.{rowWidth}
+use Rattle.wf.specs.Widths.{rowWidth, widths}
 use Rattle.lowering.specs.Images.{fieldAt}
 use Rattle.lowering.specs.Tables.{readCount, readVar, readArray, readIndex, callCount, callVar, callStart, argCount, callArg, readGood, callGood, readClasses, callClasses, readOffsets}
 use Rattle.lowering.specs.Lowering.{Lowering, targetRows}
@@ -27,6 +28,12 @@ use Rattle.soundness.proofs.Facts.{T}
 use Rattle.soundness.specs.Passed.{Reached}
 use Rattle.soundness.proofs.Images.{var-row}
 use Rattle.soundness.proofs.Marks.{table-at, table-stay, table-from}
+
+-- a row that has a width among a graph's widths is a row of that graph, and of that width
+pub row-of-width : (graph : Graph) (nbits : ℕ) (side g : List ℕ) (a w : ℕ) → hasWidth (widths graph nbits side g) a w ≡ true
+    → (a < rowCount graph g) × (getD (widths graph nbits side g) a 0 ≡ w)
+row-of-width graph nbits side g a w e =
+    let (h, t) = both _ _ e in (rw (build-length (rowWidth graph nbits side g) (rowCount graph g)) at (ltb-true a _ h), eqb-true _ _ t)
 
 -- a target row is the variable of some entry
 module _ (L : Lowering) where
@@ -73,10 +80,7 @@ module _ (L : Lowering) {N : ℕ} (E : Reached L N) where
   -- the index of a read is a row of its width
   pub read-index : (q : ℕ) → q < readCount (L .reads)
       → (readIndex (L .reads) q < targetRows L) × (getD (widthsOfTarget L) (readIndex (L .reads) q) 0 ≡ indexWidth (readArray (L .reads) q))
-  read-index q h =
-      let (a, b) = both _ _ (read-facts q h .3) in
-      let n : length (widthsOfTarget L) ≡ targetRows L = build-length (rowWidth Target (length (L .target .bits)) [] (L .target .rows)) (targetRows L) in
-      (rw n at (ltb-true (readIndex (L .reads) q) (length (widthsOfTarget L)) a), eqb-true _ _ b)
+  read-index q h = row-of-width Target (length (L .target .bits)) [] (L .target .rows) _ _ (read-facts q h .3)
 
   start-length : length (noClasses L) ≡ targetRows L
   start-length = length-replicate {A = ℕ} (targetRows L) 0

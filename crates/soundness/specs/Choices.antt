@@ -1,6 +1,7 @@
 -- "Same choices left to the chemist" (02, 2.5): which values of variables can be completed, in the source and in the target. Assumes nothing.
 use Prim.Native.Nat.{ℕ, _<_, _^_}
 use mathlib.Core.Path.{_≡_}
+use mathlib.Core.Bool.{Bool}
 use mathlib.Core.Logic.{_↔_}
 use mathlib.Core.List.{List}
 use lib.ListN.{getD}
@@ -8,11 +9,12 @@ use Rattle.rows.specs.declared.Graph.the-variants.{Source, Target}
 use Rattle.rows.specs.declared.Node.the-variants.{Var}
 use Rattle.rows.specs.Row.{MAX, rowAt}
 use Rattle.rows.specs.Node.{nodeOf}
-use Rattle.meaning.specs.Meaning.{Interpretation}
+use Rattle.value.specs.Val.{Val}
+use Rattle.meaning.specs.Meaning.{Interpretation, isTrue, isTrueBit}
 use Rattle.lowering.specs.Images.{mapAt}
 use Rattle.lowering.specs.Lowering.{Lowering, sourceRows, targetRows}
 use Rattle.lowering.specs.Check.{classes}
-use Rattle.soundness.specs.Sound.{IsMapped, SourceTrue, TargetTrue}
+use Rattle.soundness.specs.Sound.{IsMapped, SourceTrueBy, TargetTrueBy}
 
 -- Some of a graph's variables: `these i w` says that row i is one of them, and w its width. Numbers for them, each within its width
 abbrev pub Within : (ℕ → ℕ → Type 0) → (ℕ → ℕ) → Type 0
@@ -51,16 +53,31 @@ module _ (L : Lowering) where
   abbrev pub AgreesOnClassZero : List ℕ → (ℕ → ℕ) → (ℕ → ℕ) → Type 0
   AgreesOnClassZero cls A q = AgreeOn (ClassZeroVar cls) A q
 
-  -- u and p "can be completed to an interpretation that makes the source roots true": by some arrays and functions, as all variables are given
+  -- u and p "can be completed to an interpretation that makes the source roots true", by some truth: by some arrays and functions, as all variables
+  -- are given
+  module _ (holds : Val → Bool) where
+    abbrev pub OpenInSourceBy : (ℕ → ℕ) → (ℕ → ℕ) → Type 0
+    OpenInSourceBy u p = (I : Interpretation) × SourceTrueBy L holds I × AgreesOnMapped I u × AgreesOnUnmapped I p
+
+    -- "the same values on their images can be completed in the target", with q: by some values of its other variables
+    abbrev pub OpenInTargetBy : List ℕ → (ℕ → ℕ) → (ℕ → ℕ) → Type 0
+    OpenInTargetBy cls u q = (A : ℕ → ℕ) × TargetTrueBy L holds A × AgreesOnImages A u × AgreesOnClassZero cls A q
+
+    -- "for any values of the mapped source variables", the one "exactly when" the other. Numbers u need not be within the widths: those that are not
+    -- are open in neither
+    abbrev pub SameChoicesBy : List ℕ → Type 0
+    SameChoicesBy cls =
+        (u p q : ℕ → ℕ) → Within UnmappedVar p → Within (ClassZeroVar cls) q → OpenInSourceBy u p ↔ OpenInTargetBy cls u q
+
+  -- of Check, where a root is true at any width, and of the strict check, where it is one bit (02, 2.6)
   abbrev pub OpenInSource : (ℕ → ℕ) → (ℕ → ℕ) → Type 0
-  OpenInSource u p = (I : Interpretation) × SourceTrue L I × AgreesOnMapped I u × AgreesOnUnmapped I p
+  OpenInSource u p = OpenInSourceBy isTrue u p
 
-  -- "the same values on their images can be completed in the target", with q: by some values of its other variables
   abbrev pub OpenInTarget : List ℕ → (ℕ → ℕ) → (ℕ → ℕ) → Type 0
-  OpenInTarget cls u q = (A : ℕ → ℕ) × TargetTrue L A × AgreesOnImages A u × AgreesOnClassZero cls A q
+  OpenInTarget cls u q = OpenInTargetBy isTrue cls u q
 
-  -- "for any values of the mapped source variables", the one "exactly when" the other. Numbers u need not be within the widths: those that are not
-  -- are open in neither
   abbrev pub SameChoices : List ℕ → Type 0
-  SameChoices cls =
-      (u p q : ℕ → ℕ) → Within UnmappedVar p → Within (ClassZeroVar cls) q → OpenInSource u p ↔ OpenInTarget cls u q
+  SameChoices cls = SameChoicesBy isTrue cls
+
+  abbrev pub SameStrictChoices : List ℕ → Type 0
+  SameStrictChoices cls = SameChoicesBy isTrueBit cls

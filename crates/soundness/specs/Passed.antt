@@ -1,4 +1,4 @@
--- What Check has passed, test by test: when it comes to a row, and when it accepts. Demand 3 rests on this alone.
+-- What Check has passed, test by test: when it comes to a row, and when it accepts; and what the strict check has besides. Demand 3 rests on this alone.
 -- Inner: the theorem's proof cites it; no answer's definition and no statement does. Assumes nothing.
 use Prim.Native.Nat.{ℕ, _+_, _<_, _≤_}
 use mathlib.Core.Path.{_≡_}
@@ -8,10 +8,11 @@ use Rattle.answers.specs.Answer.{isAccepted}
 use Rattle.rows.specs.declared.Graph.the-variants.{Source, Target}
 use Rattle.rows.specs.Tags.{either}
 use Rattle.encoding.specs.Encoding.{badRow, badBit}
+use Rattle.rules.specs.Rule.{hasWidth}
 use Rattle.lowering.specs.Tables.{readCount, callCount, readGood, callGood, readClasses, callClasses}
 use Rattle.lowering.specs.Roots.{pair, leads, rootAt, readRoot, callRoot}
 use Rattle.lowering.specs.Lowering.{Lowering, sourceRows, targetRows}
-use Rattle.lowering.specs.Check.{sourceIll, targetIll, widthsOfTarget, noClasses, classesOfReads, classes, answerOf, pairsOfReads, pairsOfCalls}
+use Rattle.lowering.specs.Check.{sourceIll, targetIll, widthsOfSource, widthsOfTarget, noClasses, classesOfReads, classes, answerOf, pairsOfReads, pairsOfCalls}
 use Rattle.lowering.specs.Check.{callRoots, rootsEnd}
 
 -- when it comes to row n: both tables (5, 6), and the rows before it (4, 7 to 11)
@@ -40,3 +41,8 @@ pub record Passed (L : Lowering) : Type 0 where
   pub call-roots : (q : ℕ) → q < length (pairsOfCalls L)
       → rootAt (L .troots) (callRoot (L .calls) (L .cargs) (L .target .rows)) (callRoots L + q) (getD (pairsOfCalls L) q (pair 0 0)) ≡ true
   pub roots-end : length (L .troots) ≡ rootsEnd L
+
+-- when the strict check accepts, besides: every root is a row of one bit (19)
+pub record OneBit (L : Lowering) : Type 0 where
+  pub source-roots : (k : ℕ) → k < length (L .eroots) → hasWidth (widthsOfSource L) (getD (L .eroots) k 0) 1 ≡ true
+  pub target-roots : (k : ℕ) → k < length (L .troots) → hasWidth (widthsOfTarget L) (getD (L .troots) k 0) 1 ≡ true

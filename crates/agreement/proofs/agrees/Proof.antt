@@ -1,6 +1,6 @@
 -- Each operation by its function, which the first word chooses. Assumes nothing.
 use mathlib.Core.Bool.{false≢true}
-use Rattle.agreement.specs.Agrees.{source-widths, target-widths, roots, value-list, lowered, book, book-section}
+use Rattle.agreement.specs.Agrees.{source-widths, target-widths, roots, value-list, lowered, book, book-section, strictly-lowered, strict-book}
 use borrow.Author.Needs.{needs}
 use Rattle.agreement.proofs.agrees.Statement.{statement}
 use Rattle.agreement.proofs.agrees.Tie as tie
@@ -32,6 +32,12 @@ book-agrees-requires c κs = search needs
 section-agrees-requires : tie.Need-section-agrees-requires
 section-agrees-requires c κs = search needs
 
+check-agrees-requires-2 : tie.Need-check-agrees-requires-2
+check-agrees-requires-2 c κs = search needs
+
+book-agrees-requires-2 : tie.Need-book-agrees-requires-2
+book-agrees-requires-2 c κs = search needs
+
 returns-2 : tie.Need-returns-2
 returns-2 c = λ e. source-widths (c .before .match .keys1) (c .widths-agree .ensures e)
 
@@ -54,7 +60,13 @@ returns-8 : tie.Need-returns-8
 returns-8 c = λ e. book-section (c .before .match .keys7) (c .section-agrees .ensures e)
 
 returns-9 : tie.Need-returns-9
-returns-9 c = λ e. absurd (false≢true e)
+returns-9 c = λ e. strictly-lowered (c .before .match .keys8) (c .check-agrees2 .ensures e)
+
+returns-10 : tie.Need-returns-10
+returns-10 c = λ e. strict-book (c .before .match .keys9) (c .book-agrees2 .ensures e)
+
+returns-11 : tie.Need-returns-11
+returns-11 c = λ e. absurd (false≢true e)
 
 pub agrees-spec : {M : Type 1} → statement M
 agrees-spec =
@@ -69,6 +81,8 @@ agrees-spec =
     check-agrees-requires
     book-agrees-requires
     section-agrees-requires
+    check-agrees-requires-2
+    book-agrees-requires-2
     returns-2
     returns-3
     returns-4
@@ -76,4 +90,6 @@ agrees-spec =
     returns-6
     returns-7
     returns-8
-    returns-9)
+    returns-9
+    returns-10
+    returns-11)

@@ -5,7 +5,7 @@ use Prim.Native.Nat.{ℕ}
 use mathlib.Core.Bool.{false≢true}
 use borrow.Author.Tests.{not-false}
 use Rattle.answers.specs.Answer.{wordsOf}
-use Rattle.judge.specs.Judge.{verdict}
+use Rattle.judge.specs.Judge.{verdictBy}
 use borrow.Author.Needs.{needs}
 use Rattle.agreement.proofs.book_agrees.Statement.{statement}
 use Rattle.agreement.proofs.book_agrees.Tie as tie
@@ -45,9 +45,15 @@ same-answer-requires c κs = search needs
 
 returns-3 : tie.Need-returns-3
 returns-3 c =
-    let book = c .before .before .before .before .before .before .copy-bytes .ensures .1 (not-false _ (c .before .before .before .before .if2 .left)) ∙ c .before .before .before .before .before .before .before .before .given .ensures .0 in
-    let words = c .before .words-of .ensures ∙ ap wordsOf (c .before .before .verdict .ensures .0) ∙ ap (λ (x : List ℕ). wordsOf (verdict x)) book in
-    λ e. (sym (c .before .before .before .before .before .before .before .before .before .before .has-shape .ensures) ∙ not-false _ (c .before .before .before .before .before .before .before .before .before .if1 .left), sym words ∙ c .same-answer .ensures .0 e)
+    let else2 = c .before .before .before .before in
+    let at-copy-bytes = else2 .before .before in
+    let at-given = at-copy-bytes .before .before in
+    let else1 = at-given .before in
+    let at-has-shape = else1 .before in
+    let s = at-has-shape .before .before .args in
+    let book = at-copy-bytes .copy-bytes .ensures .1 (not-false _ (else2 .if2 .left)) ∙ at-given .given .ensures .0 in
+    let words = c .before .words-of .ensures ∙ ap wordsOf (c .before .before .verdict .ensures .0) ∙ ap (λ (x : List ℕ). wordsOf (verdictBy (s .strict) x)) book in
+    λ e. (sym (at-has-shape .has-shape .ensures) ∙ not-false _ (else1 .if1 .left), sym words ∙ c .same-answer .ensures .0 e)
 
 pub book-agrees-spec : {M : Type 1} → statement M
 book-agrees-spec =

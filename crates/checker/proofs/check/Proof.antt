@@ -8,7 +8,8 @@ use lib.Seq.{length-take-le}
 use Rattle.answers.specs.Answer.{isAccepted}
 use Rattle.rows.specs.declared.Graph.the-variants.{Source, Target}
 use Rattle.lowering.specs.Lowering.{Lowering, lowering}
-use Rattle.checker.proofs.Outcome.{counts, widths-front, widths-cleared, count-done, graph-done, match-done, accept-done, room-0, room-1, room-2, room-3, forms-formed, by-lists, zeros-long}
+use Rattle.forms.proofs.Form.{widths-front}
+use Rattle.checker.proofs.Outcome.{counts, widths-cleared, count-done, graph-done, match-done, accept-done, room-0, room-1, room-2, room-3, forms-formed, by-lists, zeros-long}
 use borrow.Author.Needs.{needs}
 use Rattle.checker.proofs.check.Statement.{statement}
 use Rattle.checker.proofs.check.Tie as tie
@@ -27,25 +28,25 @@ input c =
 abbrev formed : tie.After-lowered → tie.Else2
 formed c = c .before .before .before .before .before
 
-abbrev graphed : tie.Else2 → tie.After-graphs
+abbrev graphed : tie.Else2 → tie.After-rooted-graphs
 graphed c = c .before .before .before .before .before .before
 
-abbrev counted : tie.After-graphs → tie.Else1
+abbrev counted : tie.After-rooted-graphs → tie.Else1
 counted c = c .before .before .before
 
-abbrev entry : tie.After-graphs → tie.Start
+abbrev entry : tie.After-rooted-graphs → tie.Start
 entry c = start (counted c .before .before)
 
 -- the counts pass, and the forms
 counts-pass : (c : tie.Else1)
     → (let at-start = start (c .before .before) in
     let s = at-start .args in
-    isAccepted (counts (input at-start) (s .ws0 .now) (s .ws1 .now) (s .cls .now) (s .ent .now)) ≡ true)
+    isAccepted (counts (s .strict) (input at-start) (s .ws0 .now) (s .ws1 .now) (s .cls .now) (s .ent .now)) ≡ true)
 counts-pass c =
     let L = input (start (c .before .before)) in
     rw (c .before .before .count-answer .ensures (L .source) (L .target) refl refl) at (sym (c .before .is-accepted .ensures) ∙ not-false _ (c .if1 .left))
 
-forms-accepted : (c : tie.Else2) → isAccepted (graphed c .graphs .result) ≡ true
+forms-accepted : (c : tie.Else2) → isAccepted (graphed c .rooted-graphs .result) ≡ true
 forms-accepted c = sym (c .before .is-accepted2 .ensures) ∙ not-false _ (c .if2 .left)
 
 count-answer-requires : tie.Need-count-answer-requires
@@ -60,16 +61,16 @@ returns c =
     let at-start = start at-count-answer in
     let s = at-start .args in
     let L = input at-start in
-    count-done L (s .ws0 .now) (s .ws1 .now) (s .cls .now) (s .ent .now) _ (at-count-answer .count-answer .ensures (L .source) (L .target) refl refl) (sym (c .before .is-accepted .ensures) ∙ not-true _ (c .if1 .taken))
+    count-done (s .strict) L (s .ws0 .now) (s .ws1 .now) (s .cls .now) (s .ent .now) _ (at-count-answer .count-answer .ensures (L .source) (L .target) refl refl) (sym (c .before .is-accepted .ensures) ∙ not-true _ (c .if1 .taken))
 
-graphs-requires : tie.Need-graphs-requires
-graphs-requires c κs =
+rooted-graphs-requires : tie.Need-rooted-graphs-requires
+rooted-graphs-requires c κs =
     let at-count-answer = c .before .before .before .before in
     let at-start = start at-count-answer in
     let s = at-start .args in
     let L = input at-start in
     let c1 = counts-pass (c .before .before) in
-    (room-0 L (s .ws0 .now) (s .ws1 .now) (s .cls .now) (s .ent .now) c1, room-1 L (s .ws0 .now) (s .ws1 .now) (s .cls .now) (s .ent .now) c1)
+    (room-0 (s .strict) L (s .ws0 .now) (s .ws1 .now) (s .cls .now) (s .ent .now) c1, room-1 (s .strict) L (s .ws0 .now) (s .ws1 .now) (s .cls .now) (s .ent .now) c1)
 
 is-accepted-requires-2 : tie.Need-is-accepted-requires-2
 is-accepted-requires-2 c κs = search needs
@@ -100,8 +101,8 @@ returns-2 c =
     let L = input at-start in
     let c1 = counts-pass (counted at-graphs) in
     let z = at-clear-all .clear-all .ensures in
-    let k = at-graphs .graphs in
-    by-lists _ _ _ _ _ _ _ _ _ _ (zeros-long _ (length (s .ws0 .now)) _ (z .0) (k .kept .1 .1 .1 .1 .1 .0)) (zeros-long _ (length (s .ws1 .now)) _ (z .1 .0) (k .kept .1 .1 .1 .1 .1 .1 .0)) (z .1 .1 .0) (z .1 .1 .1) (graph-done L (s .ws0 .now) (s .ws1 .now) (s .cls .now) (s .ent .now) _ c1 (k .ensures .0) (sym (at-is-accepted2 .is-accepted2 .ensures) ∙ not-true _ (at-then2 .if2 .taken)))
+    let k = at-graphs .rooted-graphs in
+    by-lists _ _ _ _ _ _ _ _ _ _ (zeros-long _ (length (s .ws0 .now)) _ (z .0) (k .kept .1 .1 .1 .1 .1 .1 .1 .1 .0)) (zeros-long _ (length (s .ws1 .now)) _ (z .1 .0) (k .kept .1 .1 .1 .1 .1 .1 .1 .1 .1 .0)) (z .1 .1 .0) (z .1 .1 .1) (graph-done (s .strict) L (s .ws0 .now) (s .ws1 .now) (s .cls .now) (s .ent .now) _ c1 (k .ensures .0) (sym (at-is-accepted2 .is-accepted2 .ensures) ∙ not-true _ (at-then2 .if2 .taken)))
 
 row-count-requires : tie.Need-row-count-requires
 row-count-requires c κs = search needs
@@ -113,7 +114,7 @@ slice-reshare-prefix-lowered c =
     let s = at-start .args in
     let L = input at-start in
     let c1 = counts-pass (counted at-graphs) in
-    rw (c .row-count .ensures, at-graphs .graphs .kept .1 .1 .1 .1 .1 .1 .0) (room-1 L (s .ws0 .now) (s .ws1 .now) (s .cls .now) (s .ent .now) c1)
+    rw (c .row-count .ensures, at-graphs .rooted-graphs .kept .1 .1 .1 .1 .1 .1 .1 .1 .1 .0) (room-1 (s .strict) L (s .ws0 .now) (s .ws1 .now) (s .cls .now) (s .ent .now) c1)
 
 slice-aggregate-lowered : tie.Need-slice-aggregate-lowered
 slice-aggregate-lowered c =
@@ -122,7 +123,7 @@ slice-aggregate-lowered c =
     let s = at-start .args in
     let L = input at-start in
     let c1 = counts-pass (counted at-graphs) in
-    sym (length-take-le _ _ (rw (c .before .row-count .ensures, at-graphs .graphs .kept .1 .1 .1 .1 .1 .1 .0) (room-1 L (s .ws0 .now) (s .ws1 .now) (s .cls .now) (s .ent .now) c1)))
+    sym (length-take-le _ _ (rw (c .before .row-count .ensures, at-graphs .rooted-graphs .kept .1 .1 .1 .1 .1 .1 .1 .1 .1 .0) (room-1 (s .strict) L (s .ws0 .now) (s .ws1 .now) (s .cls .now) (s .ent .now) c1)))
 
 lowered-requires : tie.Need-lowered-requires
 lowered-requires c κs =
@@ -133,8 +134,8 @@ lowered-requires c κs =
     let L = input at-start in
     let c1 = counts-pass (counted at-graphs) in
     let ok = forms-accepted at-else2 in
-    let g1 = rw (at-graphs .graphs .ensures .0) at ok in
-    (forms-formed L (s .ws0 .now) (s .ws1 .now) (s .cls .now) (s .ent .now) g1, (widths-front Target (length (s .tbits .now)) _ [] (s .target .now) _ _ (c .before .before .before .row-count .ensures) (at-graphs .graphs .ensures .1 .1 ok), (room-2 L (s .ws0 .now) (s .ws1 .now) (s .cls .now) (s .ent .now) c1, room-3 L (s .ws0 .now) (s .ws1 .now) (s .cls .now) (s .ent .now) c1)))
+    let g1 = rw (at-graphs .rooted-graphs .ensures .0) at ok in
+    (forms-formed (s .strict) L (s .ws0 .now) (s .ws1 .now) (s .cls .now) (s .ent .now) g1, (widths-front Target (length (s .tbits .now)) _ [] (s .target .now) _ _ (c .before .before .before .row-count .ensures) (at-graphs .rooted-graphs .ensures .1 .1 ok), (room-2 (s .strict) L (s .ws0 .now) (s .ws1 .now) (s .cls .now) (s .ent .now) c1, room-3 (s .strict) L (s .ws0 .now) (s .ws1 .now) (s .cls .now) (s .ent .now) c1)))
 
 is-accepted-requires-3 : tie.Need-is-accepted-requires-3
 is-accepted-requires-3 c κs = search needs
@@ -167,11 +168,11 @@ returns-3 c =
     let L = input at-start in
     let c1 = counts-pass (counted at-graphs) in
     let ok = forms-accepted at-else2 in
-    let g1 = rw (at-graphs .graphs .ensures .0) at ok in
+    let g1 = rw (at-graphs .rooted-graphs .ensures .0) at ok in
     let z = at-clear-all2 .clear-all2 .ensures in
-    let k = at-graphs .graphs in
+    let k = at-graphs .rooted-graphs in
     let l = at-lowered .lowered in
-    by-lists _ _ _ _ _ _ _ _ _ _ (zeros-long _ (length (s .ws0 .now)) _ (z .0) (k .kept .1 .1 .1 .1 .1 .0)) (zeros-long _ (length (s .ws1 .now)) _ (z .1 .0) (k .kept .1 .1 .1 .1 .1 .1 .0)) (zeros-long _ (length (s .cls .now)) _ (z .1 .1 .0) (l .kept .1 .1 .1 .1 .1 .1 .1 .1 .1 .1 .1 .1 .0)) (zeros-long _ (length (s .ent .now)) _ (z .1 .1 .1) (l .kept .1 .1 .1 .1 .1 .1 .1 .1 .1 .1 .1 .1 .1 .0)) (match-done L (s .ws0 .now) (s .ws1 .now) (s .cls .now) (s .ent .now) _ c1 g1 (l .ensures .0) (sym (at-is-accepted3 .is-accepted3 .ensures) ∙ not-true _ (at-then3 .if3 .taken)))
+    by-lists _ _ _ _ _ _ _ _ _ _ (zeros-long _ (length (s .ws0 .now)) _ (z .0) (k .kept .1 .1 .1 .1 .1 .1 .1 .1 .0)) (zeros-long _ (length (s .ws1 .now)) _ (z .1 .0) (k .kept .1 .1 .1 .1 .1 .1 .1 .1 .1 .0)) (zeros-long _ (length (s .cls .now)) _ (z .1 .1 .0) (l .kept .1 .1 .1 .1 .1 .1 .1 .1 .1 .1 .1 .1 .0)) (zeros-long _ (length (s .ent .now)) _ (z .1 .1 .1) (l .kept .1 .1 .1 .1 .1 .1 .1 .1 .1 .1 .1 .1 .1 .0)) (match-done (s .strict) L (s .ws0 .now) (s .ws1 .now) (s .cls .now) (s .ent .now) _ c1 g1 (l .ensures .0) (sym (at-is-accepted3 .is-accepted3 .ensures) ∙ not-true _ (at-then3 .if3 .taken)))
 
 row-count-requires-2 : tie.Need-row-count-requires-2
 row-count-requires-2 c κs = search needs
@@ -184,7 +185,7 @@ clear-from-requires c κs =
     let s = at-start .args in
     let L = input at-start in
     let c1 = counts-pass (counted at-graphs) in
-    rw (c .row-count2 .ensures, at-graphs .graphs .kept .1 .1 .1 .1 .1 .0) (room-0 L (s .ws0 .now) (s .ws1 .now) (s .cls .now) (s .ent .now) c1)
+    rw (c .row-count2 .ensures, at-graphs .rooted-graphs .kept .1 .1 .1 .1 .1 .1 .1 .1 .0) (room-0 (s .strict) L (s .ws0 .now) (s .ws1 .now) (s .cls .now) (s .ent .now) c1)
 
 clear-from-requires-2 : tie.Need-clear-from-requires-2
 clear-from-requires-2 c κs =
@@ -195,7 +196,7 @@ clear-from-requires-2 c κs =
     let s = at-start .args in
     let L = input at-start in
     let c1 = counts-pass (counted at-graphs) in
-    rw (at-row-count .row-count .ensures, at-graphs .graphs .kept .1 .1 .1 .1 .1 .1 .0) (room-1 L (s .ws0 .now) (s .ws1 .now) (s .cls .now) (s .ent .now) c1)
+    rw (at-row-count .row-count .ensures, at-graphs .rooted-graphs .kept .1 .1 .1 .1 .1 .1 .1 .1 .1 .0) (room-1 (s .strict) L (s .ws0 .now) (s .ws1 .now) (s .cls .now) (s .ent .now) c1)
 
 same-length-9 : tie.Need-same-length-9
 same-length-9 c = search needs
@@ -224,11 +225,11 @@ returns-4 c =
     let L = input at-start in
     let c1 = counts-pass (counted at-graphs) in
     let ok = forms-accepted at-else2 in
-    let g1 = rw (at-graphs .graphs .ensures .0) at ok in
-    let k = at-graphs .graphs in
+    let g1 = rw (at-graphs .rooted-graphs .ensures .0) at ok in
+    let k = at-graphs .rooted-graphs in
     let l = at-lowered .lowered in
     let m = sym (at-is-accepted3 .is-accepted3 .ensures) ∙ not-false _ (at-else3 .if3 .left) in
-    by-lists _ _ _ _ _ _ _ _ _ _ (widths-cleared Source (length (s .ebits .now)) _ (length (s .ws0 .now)) (s .eside .now) (s .source .now) _ _ _ (at-row-count2 .row-count2 .ensures) (k .ensures .1 .0 ok) (k .kept .1 .1 .1 .1 .1 .0) (at-clear-from .clear-from .ensures)) (widths-cleared Target (length (s .tbits .now)) _ (length (s .ws1 .now)) [] (s .target .now) _ _ _ (at-row-count .row-count .ensures) (k .ensures .1 .1 ok) (k .kept .1 .1 .1 .1 .1 .1 .0) (c .before .before .clear-from2 .ensures)) (l .ensures .1 .0 m) (l .ensures .1 .1 m) (accept-done L (s .ws0 .now) (s .ws1 .now) (s .cls .now) (s .ent .now) _ c1 g1 (l .ensures .0) m)
+    by-lists _ _ _ _ _ _ _ _ _ _ (widths-cleared Source (length (s .ebits .now)) _ (length (s .ws0 .now)) (s .eside .now) (s .source .now) _ _ _ (at-row-count2 .row-count2 .ensures) (k .ensures .1 .0 ok) (k .kept .1 .1 .1 .1 .1 .1 .1 .1 .0) (at-clear-from .clear-from .ensures)) (widths-cleared Target (length (s .tbits .now)) _ (length (s .ws1 .now)) [] (s .target .now) _ _ _ (at-row-count .row-count .ensures) (k .ensures .1 .1 ok) (k .kept .1 .1 .1 .1 .1 .1 .1 .1 .1 .0) (c .before .before .clear-from2 .ensures)) (l .ensures .1 .0 m) (l .ensures .1 .1 m) (accept-done (s .strict) L (s .ws0 .now) (s .ws1 .now) (s .cls .now) (s .ent .now) _ c1 g1 (l .ensures .0) m)
 
 pub check-spec : {M : Type 1} → statement M
 check-spec =
@@ -237,7 +238,7 @@ check-spec =
     count-answer-requires
     is-accepted-requires
     returns
-    graphs-requires
+    rooted-graphs-requires
     is-accepted-requires-2
     clear-all-requires
     same-length

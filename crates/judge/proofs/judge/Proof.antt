@@ -34,7 +34,7 @@ abbrev shaped : tie.Else2 → tie.Else1
 shaped c = c .before .before .before
 
 abbrev roomOf : tie.Start → Answer
-roomOf c = let s = c .args in room (s .book .now) (s .ws0 .now) (s .ws1 .now) (s .cls .now) (s .ent .now) (s .words .now)
+roomOf c = let s = c .args in room (s .strict) (s .book .now) (s .ws0 .now) (s .ws1 .now) (s .cls .now) (s .ent .now) (s .words .now)
 
 roomy : (c : tie.Else2) → isAccepted (roomOf (entry (shaped c))) ≡ true
 roomy c = rw (c .before .before .room-answer .ensures) at (sym (c .before .is-accepted2 .ensures) ∙ not-false _ (c .if2 .left))
@@ -74,7 +74,7 @@ returns c =
     let s = start (t .before .before) .args in
     let z = four .clear-all .ensures in
     by-lists _ _ _ _ _ _ _ _ _ _ _ _ (z .0) (z .1 .0) (z .1 .1 .0) (z .1 .1 .1) (last .clear .ensures)
-    (shape-done (s .book .now) (s .ws0 .now) (s .ws1 .now) (s .cls .now) (s .ent .now) (s .words .now) _ (t .before .before .book-answer .ensures) (sym (t .before .is-accepted .ensures) ∙ not-true _ (t .if1 .taken)))
+    (shape-done (s .strict) (s .book .now) (s .ws0 .now) (s .ws1 .now) (s .cls .now) (s .ent .now) (s .words .now) _ (t .before .before .book-answer .ensures) (sym (t .before .is-accepted .ensures) ∙ not-true _ (t .if1 .taken)))
 
 room-answer-requires : tie.Need-room-answer-requires
 room-answer-requires c κs = good c
@@ -86,13 +86,13 @@ returns-2 : tie.Need-returns-2
 returns-2 c =
     let e = c .before .before .before in
     let s = entry e .args in
-    room-done (s .book .now) (s .ws0 .now) (s .ws1 .now) (s .cls .now) (s .ent .now) (s .words .now) _ (good e) (c .before .before .room-answer .ensures) (sym (c .before .is-accepted2 .ensures) ∙ not-true _ (c .if2 .taken))
+    room-done (s .strict) (s .book .now) (s .ws0 .now) (s .ws1 .now) (s .cls .now) (s .ent .now) (s .words .now) _ (good e) (c .before .before .room-answer .ensures) (sym (c .before .is-accepted2 .ensures) ∙ not-true _ (c .if2 .taken))
 
 load-requires : tie.Need-load-requires
 load-requires c κs =
     let e = c .before in
     let s = entry (shaped e) .args in
-    (good (shaped e), words-fit (s .book .now) (s .ws0 .now) (s .ws1 .now) (s .cls .now) (s .ent .now) (s .words .now) (roomy e))
+    (good (shaped e), words-fit (s .strict) (s .book .now) (s .ws0 .now) (s .ws1 .now) (s .cls .now) (s .ent .now) (s .words .now) (roomy e))
 
 check-loaded-requires : tie.Need-check-loaded-requires
 check-loaded-requires c κs =
@@ -133,7 +133,7 @@ returns-3 c =
     let l = load-of k in
     let e = l .before .before in
     let s = entry (shaped e) .args in
-    check-done (s .book .now) (s .ws0 .now) (s .ws1 .now) (s .cls .now) (s .ent .now) (s .words .now) _ (good (shaped e)) (roomy e) _ (k .check-loaded .ensures) _
+    check-done (s .strict) (s .book .now) (s .ws0 .now) (s .ws1 .now) (s .cls .now) (s .ent .now) (s .words .now) _ (good (shaped e)) (roomy e) _ (k .check-loaded .ensures) _
     (words-left (s .book .now) _ _ _ _ (length (s .words .now)) (c .before .before .leave .ensures) (a .is-accepted3 .ensures) (l .load .kept .1 .0))
 
 pub judge-spec : {M : Type 1} → statement M

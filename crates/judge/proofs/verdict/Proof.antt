@@ -11,8 +11,8 @@ use Rattle.judge.proofs.verdict.Tie as tie
 returns : tie.Need-returns
 returns c =
     let s = c .before .before in
-    let e = too-long (s .args .book .now) (c .if1 .taken) in
-    (e, verdict-means (s .args .book .now) (omega (arith, s .good .0)) _ e)
+    let e = too-long (s .args .strict) (s .args .book .now) (c .if1 .taken) in
+    (e, verdict-means (s .args .strict) (s .args .book .now) (omega (arith, s .good .1 .0)) _ e)
 
 slice-aggregate-judge : tie.Need-slice-aggregate-judge
 slice-aggregate-judge c = search needs
@@ -37,8 +37,8 @@ returns-2 c =
     let k = c .before .before .before .before .before in
     let t = k .before .before .before .before .before .before in
     let s = t .before .before in
-    let e = ap (λ (o : Result). o .answer) (k .judge .ensures) ∙ verdict-is (s .args .book .now) _ _ _ _ _ (omega arith) (omega arith) (omega arith) (omega arith) (omega arith) (t .if1 .left) in
-    (e, verdict-means (s .args .book .now) (omega (arith, s .good .0)) _ e)
+    let e = ap (λ (o : Result). o .answer) (k .judge .ensures) ∙ verdict-is (s .args .strict) (s .args .book .now) _ _ _ _ _ (omega arith) (omega arith) (omega arith) (omega arith) (omega arith) (t .if1 .left) in
+    (e, verdict-means (s .args .strict) (s .args .book .now) (omega (arith, s .good .1 .0)) _ e)
 
 pub verdict-spec : {M : Type 1} → statement M
 verdict-spec =

@@ -75,7 +75,7 @@ returns c =
     let l1 = l2 .before in
     let l0 = l1 .before in
     let s = entry l0 .args in
-    held-by (s .book .now) _ _ _ _ _ _ _ _ _ _ _ (s .ws0 .now) (s .ws1 .now) (s .cls .now) (s .ent .now) _ (l0 .list-at .ensures) (l1 .body .ensures)
+    held-by (s .strict) (s .book .now) _ _ _ _ _ _ _ _ _ _ _ (s .ws0 .now) (s .ws1 .now) (s .cls .now) (s .ent .now) _ (l0 .list-at .ensures) (l1 .body .ensures)
     (l2 .list-at2 .ensures) (l3 .list-at3 .ensures) (l4 .list-at4 .ensures) (l5 .list-at5 .ensures) (l6 .list-at6 .ensures) (l7 .list-at7 .ensures)
     (l8 .list-at8 .ensures) (l9 .body2 .ensures) (l10 .list-at9 .ensures) (k .check .ensures)
 

@@ -67,7 +67,7 @@ returns-4 c =
     let w = start .args .words .now in
     let ebits = at-copy-bytes .copy-bytes .ensures .1 (not-false _ (else2 .if2 .left)) ∙ at-given .given .ensures .0 in
     let tbits = at-copy-bytes2 .copy-bytes2 .ensures .1 (not-false _ (else3 .if3 .left)) ∙ at-given2 .given2 .ensures .0 in
-    λ e. (sym (at-has-shape .has-shape .ensures) ∙ not-false _ (else1 .if1 .left), check-bits w (given w 11) (given w 12) (given w 13) (given w 14) ebits tbits (c .lowering-agrees .ensures e))
+    λ e. (sym (at-has-shape .has-shape .ensures) ∙ not-false _ (else1 .if1 .left), check-bits (start .args .strict) w (given w 11) (given w 12) (given w 13) (given w 14) ebits tbits (c .lowering-agrees .ensures e))
 
 pub check-agrees-spec : {M : Type 1} → statement M
 check-agrees-spec =

@@ -6,10 +6,10 @@ use lib.ListN.{length}
 use Rattle.answers.specs.Result.{toldOf}
 use Rattle.rows.specs.Row.{MAX}
 use Rattle.lowering.specs.Lowering.{Lowering, lowering}
-use Rattle.gilfrunt.proofs.Sound.{check-means}
+use Rattle.reported.proofs.Sound.{check-means}
 use borrow.Author.Needs.{needs}
-use Rattle.gilfrunt.proofs.gilfrunt_check.Statement.{statement}
-use Rattle.gilfrunt.proofs.gilfrunt_check.Tie as tie
+use Rattle.reported.proofs.check.Statement.{statement}
+use Rattle.reported.proofs.check.Tie as tie
 
 check-requires : tie.Need-check-requires
 check-requires c κs = search needs
@@ -48,7 +48,7 @@ input c =
 
 -- owning the target's slice bounds its length
 slice : (c : tie.Start) → length (c .args .target .now) ≤ MAX
-slice c = omega (arith, c .good .1 .1 .1 .1 .1 .1 .1 .1 .0 .0)
+slice c = omega (arith, c .good .1 .1 .1 .1 .1 .1 .1 .1 .1 .0 .0)
 
 returns : tie.Need-returns
 returns c =
@@ -56,10 +56,10 @@ returns c =
     let o = call c .check .ensures in
     let s = entry (read (call c)) in
     let k = s .args in
-    (rw w (ap toldOf o), check-means _ _ w (k .ws0 .now) (k .ws1 .now) (k .classes .now) (k .entries .now) _ _ _ _ (input s) (slice s) o)
+    (rw w (ap toldOf o), check-means (k .strict) _ _ w (k .ws0 .now) (k .ws1 .now) (k .classes .now) (k .entries .now) _ _ _ _ (input s) (slice s) o)
 
-pub gilfrunt-check-spec : {M : Type 1} → statement M
-gilfrunt-check-spec =
+pub check-spec : {M : Type 1} → statement M
+check-spec =
     tie.close
     (tie.spec
     check-requires

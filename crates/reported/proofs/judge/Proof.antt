@@ -5,10 +5,10 @@ use native.Mathlib.Omega.{arith}
 use lib.ListN.{length}
 use Rattle.answers.specs.Result.{toldOf}
 use Rattle.rows.specs.Row.{MAX}
-use Rattle.gilfrunt.proofs.Sound.{book-means}
+use Rattle.reported.proofs.Sound.{book-means}
 use borrow.Author.Needs.{needs}
-use Rattle.gilfrunt.proofs.gilfrunt_judge.Statement.{statement}
-use Rattle.gilfrunt.proofs.gilfrunt_judge.Tie as tie
+use Rattle.reported.proofs.judge.Statement.{statement}
+use Rattle.reported.proofs.judge.Tie as tie
 
 judge-requires : tie.Need-judge-requires
 judge-requires c κs = search needs
@@ -43,7 +43,7 @@ entry c = c .before .before .before .before .before .before
 
 -- owning the book's slice bounds its length
 slice : (c : tie.Start) → length (c .args .book .now) ≤ MAX
-slice c = omega (arith, c .good .0 .0)
+slice c = omega (arith, c .good .1 .0 .0)
 
 returns : tie.Need-returns
 returns c =
@@ -51,11 +51,11 @@ returns c =
     let o = call c .judge .ensures in
     let s = entry (lent (call c)) in
     let k = s .args in
-    let m = book-means _ _ w (k .ws0 .now) (k .ws1 .now) (k .classes .now) (k .entries .now) _ _ _ _ (k .book .now) (k .words .now) (slice s) o in
+    let m = book-means (k .strict) _ _ w (k .ws0 .now) (k .ws1 .now) (k .classes .now) (k .entries .now) _ _ _ _ (k .book .now) (k .words .now) (slice s) o in
     (rw w (ap toldOf o), m)
 
-pub gilfrunt-judge-spec : {M : Type 1} → statement M
-gilfrunt-judge-spec =
+pub judge-spec : {M : Type 1} → statement M
+judge-spec =
     tie.close
     (tie.spec
     judge-requires
