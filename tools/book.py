@@ -4,11 +4,12 @@
     tools/book.py make LISTING [-o BOOK]
     tools/book.py show BOOK
     tools/book.py draw BOOK [-o SVG]
-    tools/book.py explain BOOK [--verdict PROGRAM]
+    tools/book.py explain BOOK [--strict] [--verdict PROGRAM]
 
-- stands for standard input. docs/BOOKS.md has the formats of books and listings.
+- stands for standard input. --strict asks the program strict_verdict, to which a root
+must be of one bit. docs/BOOKS.md has the formats of books and listings.
 
-Unproved. What is proved is the checker and the program verdict, which read the
+Unproved. What is proved is the checker and the programs, which read the
 book's bytes themselves; a mistake here can make another book than was meant, or
 a wrong explanation, never a wrong verdict.
 
@@ -94,13 +95,13 @@ def draw_book(options):
     return 0
 
 
-def ask(program, data):
-    """Verdict's answer to a book: its line, and number, place, detail."""
+def ask(program, data, name="verdict"):
+    """A program's answer to a book: its line, and number, place, detail. `rt` knows it by name."""
     try:
         run = subprocess.run([program], input=data, stdout=subprocess.PIPE, timeout=SECONDS)
     except FileNotFoundError:
         raise Failure(f"no program {program}; "
-                      "`rt check verdict` builds target/bin/verdict") from None
+                      f"`rt check {name}` builds target/bin/{name}") from None
     except subprocess.TimeoutExpired:
         raise Failure(f"{program} did not answer in {SECONDS} seconds") from None
     line = run.stdout.decode("ascii", "replace")
@@ -115,8 +116,12 @@ def ask(program, data):
 
 def explain_book(options):
     data = read_bytes(options.book)
-    line, answer = ask(options.verdict, data)
-    print(line + "\n".join("  " + text for text in explain(data, answer)))
+    name = "strict_verdict" if options.strict else "verdict"
+    program = options.verdict
+    if program is None:
+        program = os.path.join(TOP, "target", "bin", name)
+    line, answer = ask(program, data, name)
+    print(line + "\n".join("  " + text for text in explain(data, answer, options.strict)))
     return 0 if answer[0] == 0 else 1
 
 
@@ -136,8 +141,9 @@ def arguments():
     command.set_defaults(run=draw_book)
     command = commands.add_parser("explain", help="what verdict says of a book")
     command.add_argument("book", metavar="BOOK")
-    command.add_argument("--verdict", metavar="PROGRAM",
-                         default=os.path.join(TOP, "target", "bin", "verdict"))
+    command.add_argument("--strict", action="store_true",
+                         help="what strict_verdict says: every root must be of one bit")
+    command.add_argument("--verdict", metavar="PROGRAM", help="ask that program instead")
     command.set_defaults(run=explain_book)
     return parser
 

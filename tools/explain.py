@@ -327,7 +327,7 @@ def registered(entries, variable, key):
     return lines + (named or ["there is no such entry"])
 
 
-# Roots: 12, 13
+# Roots: 12, 13, 19
 
 def due(book):
     """The pairs of entries that need a congruence root, in order."""
@@ -348,10 +348,14 @@ def due_text(first, second):
     return f"BoolOr(Not({left}), Eq({first.variable}, {second.variable}))"
 
 
-def root_line(book, position):
-    if position >= len(book.target_roots):
-        return f"target root {position}: there is none, the list has {len(book.target_roots)}"
-    return f"target root {position}: " + row_line(book.target, book.target_roots[position])
+def root_line(graph, roots, position):
+    if position >= len(roots):
+        return f"{graph.name} root {position}: there is none, the list has {len(roots)}"
+    return f"{graph.name} root {position}: " + row_line(graph, roots[position])
+
+
+def target_root_line(book, position):
+    return root_line(book.target, book.target_roots, position)
 
 
 def root_mismatch(book, place, detail):
@@ -361,11 +365,11 @@ def root_mismatch(book, place, detail):
         count = sum(1 for _ in due(book))
         return [f"{leading} leading and {counted(count, 'congruence root')} are due, "
                 f"the target has {len(book.target_roots)}; left over from here:",
-                root_line(book, leading + count)] + told_apart(calls(book))
+                target_root_line(book, leading + count)] + told_apart(calls(book))
     if place >= leading:
         return [f"source root {place}: there is none"]
     return ([f"source root {place}:"] + image_lines(book, book.roots[place])
-            + [root_line(book, place)])
+            + [target_root_line(book, place)])
 
 
 def below(graph, root):
@@ -380,7 +384,7 @@ def below(graph, root):
 
 
 def congruence_mismatch(book, place, detail):
-    lines = [root_line(book, place)]
+    lines = [target_root_line(book, place)]
     for root in book.target_roots[place:place + 1]:
         lines += [row_line(book.target, row) for row in below(book.target, root)]
     for position, (first, second) in enumerate(due(book), len(book.roots)):
@@ -395,6 +399,17 @@ def common_function(book, symbol):
     if not isinstance(symbol, Function):
         return []
     return [f"both are of {symbol.text()}"] + namesakes(calls(book), symbol, NO_ROOT)
+
+
+def bad_root(book, place, detail):
+    graph, roots = graph_of(book, detail), book.roots if detail == 1 else book.target_roots
+    lines = [root_line(graph, roots, place)]
+    width = graph.width_at(roots[place]) if place < len(roots) else 0
+    if width < 2:
+        return lines + ["the strict check asks for a row of one bit"]
+    lines += ["the strict check asks for one bit; Check takes any width, and a value of 1 for true"]
+    one_bit = f"in one bit that is Eq of the row and a constant 1 of {bits_text(width)}"
+    return lines + ([one_bit] if detail == 1 else [])
 
 
 # Shape: 20
@@ -426,9 +441,10 @@ def text_lines(data):
 
 # Answers
 
-def accepted(book):
+def accepted(book, strict):
     leading = len(book.roots)
-    return ["either both source and target are satisfiable, or neither is",
+    added = ["every root, of source and target, is a row of one bit"] if strict else []
+    return ["either both source and target are satisfiable, or neither is", *added,
             f"source: {counted(len(book.source.rows), 'row')}, {counted(leading, 'root')}",
             f"target: {counted(len(book.target.rows), 'row')}, {counted(leading, 'leading root')}, "
             f"{counted(len(book.target_roots) - leading, 'congruence root')}",
@@ -457,11 +473,12 @@ ANSWERS = {
     16: ("BadRow", "a row has an unknown tag, or an unused field that is not 0", bad_row),
     17: ("BadBit", "a bit is neither 0 nor 1", bad_bit),
     18: ("WorkShort", "a work list is too short", lambda book, place, detail: []),
+    19: ("BadRoot", "a root is not a row of one bit", bad_root),
 }
 
 
-def explain(data, answer):
-    """Lines about verdict's answer (number, place, detail) to a book."""
+def explain(data, answer, strict=False):
+    """Lines about the answer (number, place, detail) of verdict, or the strict one, to a book."""
     number, place, detail = answer
     if number == 20:
         return ["20 BookShape: the bytes are no book"] + shape_lines(data, place) + text_lines(data)
@@ -469,8 +486,8 @@ def explain(data, answer):
     if bad is not None:
         return ["the bytes are no book, yet the answer is not 20"]
     if number == 0:
-        return accepted(Book(bodies))
-    if number not in ANSWERS:
+        return accepted(Book(bodies), strict)
+    if number not in ANSWERS or (number == 19 and detail not in (1, 2)):
         return [f"{number} is no answer to a book"]
     name, meaning, show = ANSWERS[number]
     return [f"{number} {name}: {meaning}"] + show(Book(bodies), place, detail)

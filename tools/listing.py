@@ -303,9 +303,15 @@ def map_note(book, row, image):
 
 
 def roots_lines(graph, roots):
-    return [(f"{at}: {word_text(root)}",
-             graph.text(root) if root < len(graph.rows) else "there is no such row")
-            for at, root in enumerate(roots)]
+    return [(f"{at}: {word_text(root)}", root_note(graph, root)) for at, root in enumerate(roots)]
+
+
+def root_note(graph, root):
+    """The row that a root names, with its width where that is not one bit."""
+    if root >= len(graph.rows):
+        return "there is no such row"
+    one_bit = graph.width_at(root) == 1
+    return graph.text(root) + ("" if one_bit else f" ({graph.note(root)})")
 
 
 def plain_lines(words):

@@ -4,6 +4,7 @@
 import glob
 import os
 import random
+import re
 import resource
 import signal
 import subprocess
@@ -21,6 +22,10 @@ from listing import SECTIONS, BadListing, BITS, ROW, Book, decode, encode, listi
 TOP = command.TOP
 SAMPLES = sorted(glob.glob(os.path.join(TOP, "samples", "*.txt")))
 VERDICT = os.path.join(TOP, "target", "bin", "verdict")
+STRICT_VERDICT = os.path.join(TOP, "target", "bin", "strict_verdict")
+built = unittest.skipUnless(os.path.exists(VERDICT), "rt check verdict builds target/bin/verdict")
+strict_built = unittest.skipUnless(os.path.exists(STRICT_VERDICT),
+                                   "rt check strict_verdict builds target/bin/strict_verdict")
 
 
 def stem(path):
@@ -34,6 +39,20 @@ def contents(path):
 
 def sample(name, ending):
     return contents(os.path.join(TOP, "samples", name + ending))
+
+
+def differs(name):
+    """Whether a sample has a strict line of its own."""
+    return os.path.exists(os.path.join(TOP, "samples", name + ".strict"))
+
+
+def strict_line(name):
+    return sample(name, ".strict" if differs(name) else ".line")
+
+
+def answer_of(line):
+    """Number, place and detail of a printed line."""
+    return tuple(map(int, line.split()[1:])) or (0, 0, 0)
 
 
 # Random books
@@ -113,6 +132,13 @@ class RoundTrip(unittest.TestCase):
         text = listing(decode(sample("reply", ".book"))[0])
         self.assertNotIn("words ", text)
         self.assertIn("Ugt 22 23", text)
+
+    def test_roots_of_other_widths_are_marked(self):
+        text = listing(decode(sample("wide-root", ".book"))[0])
+        self.assertEqual(re.findall(r"(?m)^  1: 5 +# (.*)$", text), ["And 1 2 (8 bits)"] * 2)
+        self.assertEqual(re.findall(r"(?m)^  0: 4 +# (.*)$", text), ["Ult 1 3"] * 2)
+        text = listing(decode(sample("root-past", ".book"))[0])
+        self.assertEqual(re.findall(r"(?m)^  1: 7 +# (.*)$", text), ["there is no such row"])
 
     def test_forms_of_writing(self):
         plain = "source\n 0: Var 8\nsource bits\n 1 0 1\nmap\n 18446744073709551615 16\n"
@@ -248,15 +274,52 @@ EXPLAINED = [
 ]
 
 
+# What the explanation of a sample's strict answer must show.
+STRICT_EXPLAINED = [
+    ("wide-root", ["19 BadRoot: a root is not a row of one bit\n",
+                   "source root 1: source row 5: And 1 2 (8 bits)\n",
+                   "the strict check asks for one bit; Check takes any width",
+                   "in one bit that is Eq of the row and a constant 1 of 8 bits"]),
+    ("wide-root-map", ["source root 1: source row 5: And 1 2 (8 bits)\n"]),
+    ("root-past", ["source root 1: source row 7: there is none, the source has 7 rows\n",
+                   "the strict check asks for a row of one bit"]),
+    ("target-root-past", ["target root 1: target row 9: there is none, the target has 9 rows\n",
+                          "the strict check asks for a row of one bit"]),
+    ("one-bit-root", ["either both source and target are satisfiable, or neither is\n"
+                      "every root, of source and target, is a row of one bit\n"]),
+    ("case-7", ["left over", "target root 1"]),
+]
+
+
 class Explanations(unittest.TestCase):
+    def assert_explained(self, name, answer, parts, strict):
+        text = "\n".join(explain(sample(name, ".book"), answer, strict))
+        for part in parts:
+            with self.subTest(sample=name, part=part):
+                self.assertIn(part, text)
+
     def test_samples(self):
         for name, parts in EXPLAINED:
-            words = sample(name, ".line").decode().split()
-            answer = tuple(map(int, words[1:])) or (0, 0, 0)
-            text = "\n".join(explain(sample(name, ".book"), answer))
-            for part in parts:
-                with self.subTest(sample=name, part=part):
-                    self.assertIn(part, text)
+            self.assert_explained(name, answer_of(sample(name, ".line")), parts, False)
+
+    def test_strict_lines_of_samples(self):
+        for name, parts in STRICT_EXPLAINED:
+            self.assert_explained(name, answer_of(strict_line(name)), parts, True)
+
+    def test_bad_roots(self):
+        data = parse("source roots\n 0 MAX\nsource\n Var 1\ntarget\n Var 2\n Add 0 5\n"
+                     "target roots\n 0 1\n")
+        for place, detail, line in (
+                (1, 1, "source root 1: source row MAX: there is none, the source has 1 row"),
+                (2, 1, "source root 2: there is none, the list has 2"),
+                (0, 2, "target root 0: target row 0: Var 2 (2 bits)"),
+                (1, 2, "target root 1: target row 1: Add 0 5 (ill-formed)")):
+            self.assertIn(line, explain(data, (19, place, detail)))
+        self.assertEqual(explain(data, (19, 0, 0)), ["19 is no answer to a book"])
+
+    def test_only_the_strict_check_speaks_of_bits(self):
+        for name in ("reply", "wide-root"):
+            self.assertNotIn("one bit", "\n".join(explain(sample(name, ".book"), (0, 0, 0))))
 
     def test_root_without_image(self):
         data = parse("source roots\n 0\ntarget roots\n MAX\n")
@@ -410,6 +473,9 @@ class Pictures(unittest.TestCase):
             with self.subTest(seed=seed):
                 xml.fromstring(draw(random_bodies(seed) if seed % 2 else damaged(seed)))
 
+    def test_width_of_a_root(self):
+        self.assertIn("8 bits; root 1", self.picture("wide-root"))
+
     def test_picture_in_docs(self):
         """docs/lowering.svg is `python3 tools/book.py draw samples/case-10a.book`."""
         kept = contents(os.path.join(TOP, "docs", "lowering.svg")).decode()
@@ -498,6 +564,29 @@ class CommandLine(unittest.TestCase):
         shown, _ = self.run_book("explain", path, "--verdict", self.fake(b"accepted\\n"), status=0)
         self.assertTrue(shown.startswith(b"accepted\n"))
 
+    def test_explain_strict(self):
+        path = os.path.join(TOP, "samples", "wide-root.book")
+        program = self.fake(b"refused 19 1 1\\n")
+        for options in ([], ["--strict"]):
+            words = ["explain", path, *options, "--verdict", program]
+            self.assertIn(b"refused 19 1 1\n  19 BadRoot", self.run_book(*words, status=1)[0])
+        words = ["explain", path, "--verdict", self.fake(b"accepted\\n")]
+        self.assertNotIn(b"one bit", self.run_book(*words, status=0)[0])
+        self.assertIn(b"one bit", self.run_book(*words, "--strict", status=0)[0])
+
+    def test_explain_asks_the_program_that_is_named(self):
+        """Without --verdict the one of target/bin, which need not be built."""
+        path = os.path.join(TOP, "samples", "wide-root.book")
+        for options, program, line in (([], VERDICT, sample("wide-root", ".line")),
+                                       (["--strict"], STRICT_VERDICT, strict_line("wide-root"))):
+            there = os.path.exists(program)
+            status = int(line != b"accepted\n") if there else 2
+            shown, message = self.run_book("explain", path, *options, status=status)
+            if there:
+                self.assertTrue(shown.startswith(line))
+            else:
+                self.assertIn(f"no program {program};", message)
+
     def test_explain_without_an_answer(self):
         path = os.path.join(TOP, "samples", "case-1.book")
         for printed in (b"", b"yes\\n", b"accepted", b"refused 0 0 0\\n", b"refused 1 2\\n",
@@ -505,8 +594,10 @@ class CommandLine(unittest.TestCase):
             message = self.run_book("explain", path, "--verdict", self.fake(printed), status=2)[1]
             self.assertIn("answered", message)
         missing = os.path.join(self.folder, "none")
-        message = self.run_book("explain", path, "--verdict", missing, status=2)[1]
-        self.assertIn("no program", message)
+        for options, target in (([], "verdict"), (["--strict"], "strict_verdict")):
+            message = self.run_book("explain", path, *options, "--verdict", missing, status=2)[1]
+            self.assertIn(f"no program {missing}; `rt check {target}` builds "
+                          f"target/bin/{target}\n", message)
         self.run_book("explain", path, "--verdict", path, status=2)
 
 
@@ -518,18 +609,42 @@ class Samples(unittest.TestCase):
                 self.assertEqual(parse(contents(path).decode()), sample(stem(path), ".book"))
 
     def test_table_of_samples(self):
+        """A sample whose strict line is another stands in the table that has both."""
         table = contents(os.path.join(TOP, "samples", "README.md")).decode()
         for path in SAMPLES:
-            line = sample(stem(path), ".line").decode().strip()
+            lines = [sample(stem(path), ".line")] + [strict_line(stem(path))] * differs(stem(path))
+            cells = " ".join(f"`{line.decode().strip()}` |" for line in lines)
             with self.subTest(sample=stem(path)):
-                self.assertRegex(table, rf"(?m)^\| {stem(path)} \| .* \| `{line}` \|$")
+                found = re.findall(rf"(?m)^\| {stem(path)} \| [^|]* \| (.*)$", table)
+                self.assertEqual(found, [cells])
 
-    @unittest.skipUnless(os.path.exists(VERDICT), "rt check verdict builds target/bin/verdict")
+    def test_strict_lines_are_by_the_rule(self):
+        """19 at the first bad root, the source's first, but behind 20, 15 to 18, 1 and 2."""
+        for path in SAMPLES:
+            name = stem(path)
+            expected, book = sample(name, ".line"), Book(decode(sample(name, ".book"))[0])
+            graphs = (1, book.source, book.roots), (2, book.target, book.target_roots)
+            bad = [f"refused 19 {place} {detail}\n".encode() for detail, graph, roots in graphs
+                   for place, root in enumerate(roots) if graph.width_at(root) != 1]
+            if bad and answer_of(expected)[0] not in (1, 2, 15, 16, 17, 18, 20):
+                expected = bad[0]
+            with self.subTest(sample=name):
+                self.assertEqual(strict_line(name), expected)
+                self.assertEqual(differs(name), expected != sample(name, ".line"))
+
+    @built
     def test_lines_are_what_verdict_prints(self):
         for path in SAMPLES:
             with self.subTest(sample=stem(path)):
                 line, _ = command.ask(VERDICT, sample(stem(path), ".book"))
                 self.assertEqual(line.encode(), sample(stem(path), ".line"))
+
+    @strict_built
+    def test_strict_lines_are_what_strict_verdict_prints(self):
+        for path in SAMPLES:
+            with self.subTest(sample=stem(path)):
+                line, _ = command.ask(STRICT_VERDICT, sample(stem(path), ".book"))
+                self.assertEqual(line.encode(), strict_line(stem(path)))
 
 
 def with_stack(kibibytes):
@@ -537,12 +652,14 @@ def with_stack(kibibytes):
     return lambda: resource.setrlimit(resource.RLIMIT_STACK, (kibibytes * 1024,) * 2)
 
 
-@unittest.skipUnless(os.path.exists(VERDICT), "rt check verdict builds target/bin/verdict")
+@built
 class Failures(unittest.TestCase):
     """What docs/BOOKS.md says of verdict when things fail around it."""
 
+    program = VERDICT
+
     def verdict(self, **options):
-        run = subprocess.run([VERDICT], stderr=subprocess.PIPE, **options)
+        run = subprocess.run([self.program], stderr=subprocess.PIPE, **options)
         return run.returncode, run.stdout
 
     def test_read(self):
@@ -560,6 +677,11 @@ class Failures(unittest.TestCase):
         for kibibytes, outcome in ((128, (-signal.SIGSEGV, b"")), (512, (0, b"accepted\n"))):
             self.assertEqual(self.verdict(input=sample("reply", ".book"), stdout=subprocess.PIPE,
                                           preexec_fn=with_stack(kibibytes)), outcome)
+
+
+@strict_built
+class StrictFailures(Failures):
+    program = STRICT_VERDICT
 
 
 if __name__ == "__main__":
