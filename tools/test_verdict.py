@@ -1,5 +1,6 @@
 #!/usr/bin/env python3
-"""Tests of tools/release-check, and of target/bin/verdict where it is built: python3 tools/test_verdict.py"""
+"""Tests of tools/release-check, and of target/bin/verdict and target/bin/strict_verdict where they are built:
+python3 tools/test_verdict.py"""
 
 import glob
 import os
@@ -10,6 +11,7 @@ import unittest
 TOP = os.path.dirname(os.path.dirname(os.path.abspath(__file__)))
 CHECK = os.path.join(TOP, "tools", "release-check")
 VERDICT = os.path.join(TOP, "target", "bin", "verdict")
+STRICT_VERDICT = os.path.join(TOP, "target", "bin", "strict_verdict")
 SAMPLES = os.path.join(TOP, "samples")
 
 
@@ -18,14 +20,19 @@ def contents(path):
         return file.read()
 
 
-def run(arguments, verdict, stdin=b"", stdout=subprocess.PIPE):
-    """Status and output of release-check with that program as verdict."""
-    done = subprocess.run([CHECK, *arguments], input=stdin, stdout=stdout, stderr=subprocess.DEVNULL,
-                          env={**os.environ, "VERDICT": verdict}, check=False)
-    return done.returncode, done.stdout
+class Release(unittest.TestCase):
+    """release-check, in one of its two modes."""
+
+    options, variable, other = [], "VERDICT", "STRICT_VERDICT"
+
+    def release(self, arguments, program, stdin=b"", stdout=subprocess.PIPE, other="/no/such"):
+        """Status and output with that program, and another one for the other mode."""
+        done = subprocess.run([CHECK, *self.options, *arguments], input=stdin, stdout=stdout, stderr=subprocess.DEVNULL,
+                              env={**os.environ, self.variable: program, self.other: other}, check=False)
+        return done.returncode, done.stdout
 
 
-class Answers(unittest.TestCase):
+class Answers(Release):
     """Programs that print this and that in verdict's place."""
 
     def setUp(self):
@@ -33,11 +40,14 @@ class Answers(unittest.TestCase):
         self.addCleanup(folder.cleanup)
         self.program = os.path.join(folder.name, "verdict")
 
-    def printing(self, script, *arguments, **options):
-        with open(self.program, "w", encoding="ascii") as file:
+    def write(self, path, script):
+        with open(path, "w", encoding="ascii") as file:
             file.write("#!/bin/sh\n" + script + "\n")
-        os.chmod(self.program, 0o755)
-        return run(arguments, self.program, **options)
+        os.chmod(path, 0o755)
+
+    def printing(self, script, *arguments, **options):
+        self.write(self.program, script)
+        return self.release(arguments, self.program, **options)
 
     def test_accepted(self):
         self.assertEqual(self.printing(r"printf 'accepted\n'"), (0, b"accepted\n"))
@@ -71,7 +81,8 @@ class Answers(unittest.TestCase):
 
     def test_closed_output(self):
         self.printing("echo accepted")
-        done = subprocess.run(f"VERDICT={self.program} {CHECK} >&- 2>/dev/null", shell=True, check=False)
+        command = " ".join([f"{self.variable}={self.program}", CHECK, *self.options])
+        done = subprocess.run(command + " >&- 2>/dev/null", shell=True, check=False)
         self.assertEqual(done.returncode, 2)
 
     def test_arguments(self):
@@ -85,29 +96,59 @@ class Answers(unittest.TestCase):
         self.assertEqual(self.printing("echo accepted", "a", "b"), (2, b""))
         self.assertEqual(self.printing("echo accepted", TOP), (2, b""))
 
+    def test_each_mode_has_its_program(self):
+        other = self.program + " of the other mode"
+        for answer, status in (("accepted", 1), ("refused 19 0 1", 0)):
+            self.write(other, f"echo {answer}")
+            mine = ["accepted", "refused 20 0 0"][status]
+            self.assertEqual(self.printing(f"echo {mine}", other=other), (status, mine.encode() + b"\n"))
+        self.write(other, "echo accepted")
+        os.remove(self.program)
+        self.assertEqual(self.release([], self.program, other=other), (2, b""))
+
+    def test_strict_stands_first(self):
+        book = self.program + " a book"
+        with open(book, "w", encoding="ascii") as file:
+            file.write("accepted\n")
+        for arguments in ([book, "--strict"], ["--strict", "--strict"], ["--strikt"], ["-strict"], ["--strict="], ["--", book]):
+            with self.subTest(arguments=arguments):
+                self.assertEqual(self.printing("echo accepted", *arguments, other=self.program), (2, b""))
+
     def test_no_program(self):
-        self.assertEqual(run([], self.program), (2, b""))
-        self.assertEqual(run([], TOP), (2, b""))
+        self.assertEqual(self.release([], self.program), (2, b""))
+        self.assertEqual(self.release([], TOP), (2, b""))
         with open(self.program, "w", encoding="ascii") as file:
             file.write("echo accepted\n")
-        self.assertEqual(run([], self.program), (2, b""))
+        self.assertEqual(self.release([], self.program), (2, b""))
+
+
+class StrictAnswers(Answers):
+    options, variable, other = ["--strict"], "STRICT_VERDICT", "VERDICT"
 
 
 @unittest.skipUnless(os.path.exists(VERDICT), "target/bin/verdict is not built")
-class Program(unittest.TestCase):
+class Program(Release):
+    program = VERDICT
+
     def verdict(self, *arguments, stdin=b""):
-        return subprocess.run([VERDICT, *arguments], input=stdin, capture_output=True, check=False)
+        return subprocess.run([self.program, *arguments], input=stdin, capture_output=True, check=False)
+
+    def line(self, sample):
+        return contents(sample + ".line")
+
+    def judged(self, *arguments, stdin=b""):
+        return self.release(arguments, self.program, stdin=stdin)
 
     def test_samples(self):
-        for line in sorted(glob.glob(os.path.join(SAMPLES, "*.line"))):
-            with self.subTest(line=line):
-                expected = contents(line)
-                book = line[:-len("line")] + "book"
+        for path in sorted(glob.glob(os.path.join(SAMPLES, "*.line"))):
+            with self.subTest(line=path):
+                sample = path[:-len(".line")]
+                book, expected = sample + ".book", self.line(sample)
                 answer = (0 if expected == b"accepted\n" else 1, expected)
                 self.assertEqual(self.verdict(book).stdout, expected)
                 self.assertEqual(self.verdict(stdin=contents(book)).stdout, expected)
-                self.assertEqual(run([book], VERDICT), answer)
-                self.assertEqual(run([], VERDICT, stdin=contents(book)), answer)
+                self.assertEqual(self.judged(book), answer)
+                self.assertEqual(self.judged(stdin=contents(book)), answer)
 
     def test_failures(self):
         book = os.path.join(SAMPLES, "empty.book")
@@ -116,13 +157,22 @@ class Program(unittest.TestCase):
                 done = self.verdict(*arguments, stdin=contents(book))
                 self.assertEqual(done.stdout, b"")
                 self.assertTrue(done.stderr)
-                self.assertEqual(run(arguments, VERDICT, stdin=contents(book)), (2, b""))
+                self.assertEqual(self.judged(*arguments, stdin=contents(book)), (2, b""))
 
     def test_length(self):
         empty = contents(os.path.join(SAMPLES, "empty.book"))
         for size, expected in [(0, b"refused 20 0 0\n"), (175, b"refused 20 0 0\n"), (65536, b"refused 20 12 0\n"),
                                (65537, b"refused 20 13 0\n"), (200000, b"refused 20 13 0\n")]:
             self.assertEqual(self.verdict(stdin=(empty + bytes(size))[:size]).stdout, expected)
+
+
+@unittest.skipUnless(os.path.exists(STRICT_VERDICT), "target/bin/strict_verdict is not built")
+class StrictProgram(Program):
+    options, variable, other = ["--strict"], "STRICT_VERDICT", "VERDICT"
+    program = STRICT_VERDICT
+
+    def line(self, sample):
+        return contents(sample + (".strict" if os.path.exists(sample + ".strict") else ".line"))
 
 
 if __name__ == "__main__":
