@@ -6,13 +6,15 @@
  * The first command proves and builds the library, once. The second prints what
  * verdict prints, `accepted` or `refused` with number, place and detail. Exit status:
  * 0 accepted, 1 refused, 2 not done, with a message. verdict itself takes books of at
- * most 65,536 bytes; this program sizes its lists by the book.
+ * most 65,536 bytes; this program sizes its lists by the book. With --strict before the
+ * file it prints what strict_verdict prints: every root must have one bit.
  *
  * The answer comes from the proved library. What stands in this file is not proved.
  */
 #include <inttypes.h>
 #include <stdio.h>
 #include <stdlib.h>
+#include <string.h>
 
 #include "gilfrunt.h"
 
@@ -67,7 +69,7 @@ static size_t word_count(const uint8_t *book, size_t length)
 
 /* Lends lists of the sizes that the book needs. WorkShort (18) says that there was
  * no memory for them: nothing was judged. */
-static gilfrunt_answer judge(const uint8_t *book, size_t length)
+static gilfrunt_answer judge(const uint8_t *book, size_t length, int strict)
 {
     size_t source_rows = section_length(book, length, GILFRUNT_SECTION_SOURCE) / (8 * GILFRUNT_SOURCE_ROW);
     size_t target_rows = section_length(book, length, GILFRUNT_SECTION_TARGET) / (8 * GILFRUNT_TARGET_ROW);
@@ -81,8 +83,9 @@ static gilfrunt_answer judge(const uint8_t *book, size_t length)
         all = all && lists[k] != NULL;
     }
     if (all)
-        a = gilfrunt_judge(book, length, lists[0], sizes[0], lists[1], sizes[1],
-                           lists[2], sizes[2], lists[3], sizes[3], lists[4], sizes[4]);
+        a = (strict ? gilfrunt_strict_judge : gilfrunt_judge)(
+            book, length, lists[0], sizes[0], lists[1], sizes[1],
+            lists[2], sizes[2], lists[3], sizes[3], lists[4], sizes[4]);
     for (int k = 0; k < 5; k++)
         free(lists[k]);
     return a;
@@ -90,20 +93,22 @@ static gilfrunt_answer judge(const uint8_t *book, size_t length)
 
 int main(int argc, char **argv)
 {
-    if (argc != 2) {
-        fprintf(stderr, "usage: book FILE\n");
+    int strict = argc == 3 && strcmp(argv[1], "--strict") == 0;
+    if (argc != 2 + strict) {
+        fprintf(stderr, "usage: book [--strict] FILE\n");
         return 2;
     }
+    const char *path = argv[1 + strict];
     size_t length;
-    uint8_t *book = read_file(argv[1], &length);
+    uint8_t *book = read_file(path, &length);
     if (book == NULL) {
-        fprintf(stderr, "book: cannot read %s\n", argv[1]);
+        fprintf(stderr, "book: cannot read %s\n", path);
         return 2;
     }
-    gilfrunt_answer a = judge(book, length);
+    gilfrunt_answer a = judge(book, length, strict);
     free(book);
     if (a.number == GILFRUNT_WORK_SHORT) {
-        fprintf(stderr, "book: no memory for %s\n", argv[1]);
+        fprintf(stderr, "book: no memory for %s\n", path);
         return 2;
     }
     if (a.number == GILFRUNT_ACCEPTED)

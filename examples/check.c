@@ -5,6 +5,8 @@
  *
  * The first command proves and builds the library, once. The second prints `0 0 0`
  * (number, place, detail) and ends with 0; a refusal ends with 1.
+ *
+ * gilfrunt_strict_check takes the same lists, and refuses a root of more than one bit.
  */
 #include <inttypes.h>
 #include <stdio.h>

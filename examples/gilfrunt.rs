@@ -106,11 +106,31 @@ extern "C" {
         classes: *mut u64, classes_len: usize, entries: *mut u64, entries_len: usize,
     ) -> Answer;
 
+    fn gilfrunt_strict_check(
+        source: *const u64, source_len: usize, source_bits: *const u8, source_bits_len: usize,
+        side: *const u64, side_len: usize, source_roots: *const u64, source_roots_len: usize,
+        map: *const u64, map_len: usize, reads: *const u64, reads_len: usize,
+        calls: *const u64, calls_len: usize, arguments: *const u64, arguments_len: usize,
+        target: *const u64, target_len: usize, target_bits: *const u8, target_bits_len: usize,
+        target_roots: *const u64, target_roots_len: usize,
+        source_widths: *mut u64, source_widths_len: usize,
+        target_widths: *mut u64, target_widths_len: usize,
+        classes: *mut u64, classes_len: usize, entries: *mut u64, entries_len: usize,
+    ) -> Answer;
+
     fn gilfrunt_section_answer(book: *const u8, book_len: usize, number: u64) -> Answer;
 
     fn gilfrunt_section(book: *const u8, book_len: usize, number: u64) -> Stretch;
 
     fn gilfrunt_judge(
+        book: *const u8, book_len: usize,
+        source_widths: *mut u64, source_widths_len: usize,
+        target_widths: *mut u64, target_widths_len: usize,
+        classes: *mut u64, classes_len: usize, entries: *mut u64, entries_len: usize,
+        words: *mut u64, words_len: usize,
+    ) -> Answer;
+
+    fn gilfrunt_strict_judge(
         book: *const u8, book_len: usize,
         source_widths: *mut u64, source_widths_len: usize,
         target_widths: *mut u64, target_widths_len: usize,
@@ -181,6 +201,24 @@ pub fn check(of: &Lowering, lent: Lent) -> Answer {
     }
 }
 
+/// Whether the target is the lowering of the source, and every root is of one bit.
+pub fn strict_check(of: &Lowering, lent: Lent) -> Answer {
+    unsafe {
+        gilfrunt_strict_check(
+            of.source.as_ptr(), of.source.len(), of.source_bits.as_ptr(), of.source_bits.len(),
+            of.side.as_ptr(), of.side.len(), of.source_roots.as_ptr(), of.source_roots.len(),
+            of.map.as_ptr(), of.map.len(), of.reads.as_ptr(), of.reads.len(),
+            of.calls.as_ptr(), of.calls.len(), of.arguments.as_ptr(), of.arguments.len(),
+            of.target.as_ptr(), of.target.len(), of.target_bits.as_ptr(), of.target_bits.len(),
+            of.target_roots.as_ptr(), of.target_roots.len(),
+            lent.source_widths.as_mut_ptr(), lent.source_widths.len(),
+            lent.target_widths.as_mut_ptr(), lent.target_widths.len(),
+            lent.classes.as_mut_ptr(), lent.classes.len(),
+            lent.entries.as_mut_ptr(), lent.entries.len(),
+        )
+    }
+}
+
 /// A section of a book, 1 to 11, or why there is none.
 pub fn section(book: &[u8], number: u64) -> Result<&[u8], Answer> {
     let answer = unsafe { gilfrunt_section_answer(book.as_ptr(), book.len(), number) };
@@ -205,8 +243,32 @@ pub fn judge(book: &[u8], lent: Lent, words: &mut [u64]) -> Answer {
     }
 }
 
+/// The strict verdict on a book: every root must be of one bit.
+pub fn strict_judge(book: &[u8], lent: Lent, words: &mut [u64]) -> Answer {
+    unsafe {
+        gilfrunt_strict_judge(
+            book.as_ptr(), book.len(),
+            lent.source_widths.as_mut_ptr(), lent.source_widths.len(),
+            lent.target_widths.as_mut_ptr(), lent.target_widths.len(),
+            lent.classes.as_mut_ptr(), lent.classes.len(),
+            lent.entries.as_mut_ptr(), lent.entries.len(),
+            words.as_mut_ptr(), words.len(),
+        )
+    }
+}
+
 /// The verdict on a book of any size.
 pub fn verdict(book: &[u8]) -> Answer {
+    with_lists(book, judge)
+}
+
+/// The strict verdict on a book of any size.
+pub fn strict_verdict(book: &[u8]) -> Answer {
+    with_lists(book, strict_judge)
+}
+
+/// What a function answers to a book, with lists as long as the book needs.
+fn with_lists(book: &[u8], judge: fn(&[u8], Lent, &mut [u64]) -> Answer) -> Answer {
     let bytes = |number| section(book, number).map_or(0, |body: &[u8]| body.len());
     let rows = bytes(9) / 32;
     let (mut source, mut target) = (vec![0; bytes(1) / 40], vec![0; rows]);
@@ -270,10 +332,37 @@ mod tests {
     }
 
     #[test]
+    fn strict_roots() {
+        let mut lists = [[9; 1]; 4];
+        let mut both = |width, source_roots: &[u64], target_roots: &[u64]| {
+            let (source, target) = ([0, width, 0, 0, 0], [0, width, 0, 0]);
+            let of = Lowering {
+                source: &source,
+                target: &target,
+                map: &[0],
+                source_roots,
+                target_roots,
+                ..Lowering::default()
+            };
+            [check, strict_check].map(|check| {
+                let [source_widths, target_widths, classes, entries] = &mut lists;
+                check(&of, Lent { source_widths, target_widths, classes, entries })
+            })
+        };
+        assert_eq!(both(1, &[0], &[0]), [answer(0, 0, 0), answer(0, 0, 0)]);
+        assert_eq!(both(8, &[0], &[0]), [answer(0, 0, 0), answer(19, 0, 1)]);
+        assert_eq!(both(1, &[0, 1], &[0]), [answer(12, 1, 0), answer(19, 1, 1)]);
+        assert_eq!(both(1, &[0], &[0, 1]), [answer(12, 0, 0), answer(19, 1, 2)]);
+        assert_eq!(lists, [[0], [0], [0], [0]]);
+    }
+
+    #[test]
     fn books() {
         let contents: Vec<u8> = (0..22).flat_map(|k| [176 * (1 - k % 2), 0, 0, 0, 0, 0, 0, 0]).collect();
         assert_eq!(verdict(&contents).to_string(), "accepted");
         assert_eq!(verdict(&[]).to_string(), "refused 20 0 0");
+        assert_eq!(strict_verdict(&contents).to_string(), "accepted");
+        assert_eq!(strict_verdict(&[]).to_string(), "refused 20 0 0");
         assert_eq!(section(&contents, 1), Ok(&[][..]));
         assert_eq!(section(&contents, 12), Err(answer(24, 0, 0)));
         assert_eq!(section(&contents[1..], 1), Err(answer(20, 0, 0)));

@@ -12,10 +12,10 @@
  *   gilfrunt_source_widths  widths                           source_len / 5
  *   gilfrunt_target_widths  widths                           target_len / 4
  *   gilfrunt_values         widths, values                   target_len / 4
- *   gilfrunt_check          source_widths                    source_len / 5
- *                           target_widths, classes, entries  target_len / 4
- *   gilfrunt_judge          source_widths                    section 1's bytes / 40
- *                           target_widths, classes, entries  section 9's bytes / 32
+ *   gilfrunt_check,         source_widths                    source_len / 5
+ *   gilfrunt_strict_check   target_widths, classes, entries  target_len / 4
+ *   gilfrunt_judge,         source_widths                    section 1's bytes / 40
+ *   gilfrunt_strict_judge   target_widths, classes, entries  section 9's bytes / 32
  *                           words                            bytes of all sections
  *                                                            but 2 and 10, / 8
  *
@@ -283,6 +283,38 @@ gilfrunt_answer gilfrunt_check(
     uint64_t *classes, size_t classes_len,
     uint64_t *entries, size_t entries_len);
 
+/* As gilfrunt_check, with the rule of SMT-LIB that an asserted term is Bool: each root
+ * must name a row of one bit, and is true only as such a row with value 1. The lists
+ * are those of gilfrunt_check. Answers the first of these that applies:
+ *
+ *   15, 18, 16, 17, 1, 2   as by gilfrunt_check
+ *   19  place position,    first source root (1) that is past the rows or whose row's
+ *       detail 1, 2        width is not 1, then first such target root (2)
+ *    3, 5, 6 and the rest  as by gilfrunt_check
+ *    0                     accepted: each root is a row of one bit, and source and
+ *                          target are satisfiable together, and leave the same
+ *                          values of mapped variables open
+ *
+ * What it accepts, gilfrunt_check accepts, and both leave the same in the lists. 19
+ * sets all four lists to 0.
+ */
+gilfrunt_answer gilfrunt_strict_check(
+    const uint64_t *source, size_t source_len,
+    const uint8_t *source_bits, size_t source_bits_len,
+    const uint64_t *side, size_t side_len,
+    const uint64_t *source_roots, size_t source_roots_len,
+    const uint64_t *map, size_t map_len,
+    const uint64_t *reads, size_t reads_len,
+    const uint64_t *calls, size_t calls_len,
+    const uint64_t *args, size_t args_len,
+    const uint64_t *target, size_t target_len,
+    const uint8_t *target_bits, size_t target_bits_len,
+    const uint64_t *target_roots, size_t target_roots_len,
+    uint64_t *source_widths, size_t source_widths_len,
+    uint64_t *target_widths, size_t target_widths_len,
+    uint64_t *classes, size_t classes_len,
+    uint64_t *entries, size_t entries_len);
+
 /* Whether a book has a section of this number, 1 to 11. Answers the first of
  * these that applies:
  *
@@ -320,6 +352,17 @@ gilfrunt_stretch gilfrunt_section(
  * all five lists to 0. The book is only read.
  */
 gilfrunt_answer gilfrunt_judge(
+    const uint8_t *book, size_t book_len,
+    uint64_t *source_widths, size_t source_widths_len,
+    uint64_t *target_widths, size_t target_widths_len,
+    uint64_t *classes, size_t classes_len,
+    uint64_t *entries, size_t entries_len,
+    uint64_t *words, size_t words_len);
+
+/* The strict verdict on a book: 20, or the answer of gilfrunt_strict_check on the lists
+ * that the book holds. All lists are as in gilfrunt_judge.
+ */
+gilfrunt_answer gilfrunt_strict_judge(
     const uint8_t *book, size_t book_len,
     uint64_t *source_widths, size_t source_widths_len,
     uint64_t *target_widths, size_t target_widths_len,

@@ -109,9 +109,11 @@ class Examples(unittest.TestCase):
     def test_samples(self):
         program = self.book()
         for path in sorted(glob.glob(os.path.join(TOP, "samples", "*.book"))):
-            with self.subTest(sample=os.path.basename(path)):
-                line = content(path[:-4] + "line")
-                self.assertEqual(run([program, path], int(line != "accepted\n")), line)
+            own = os.path.exists(path[:-4] + "strict")
+            for options, kind in (([], "line"), (["--strict"], "strict" if own else "line")):
+                with self.subTest(sample=os.path.basename(path), options=options):
+                    line, words = content(path[:-4] + kind), [program, *options, path]
+                    self.assertEqual(run(words, int(line != "accepted\n")), line)
 
     def test_long_book(self):
         """Longer than verdict takes: 10,000 variables, then the same with one map word less."""
@@ -126,7 +128,9 @@ class Examples(unittest.TestCase):
 
     def test_book_without_an_answer(self):
         program = self.book()
-        run([program], 2)
+        good = "samples/case-1.book"
+        for words in ([], ["--strict"], [good, "--strict"], ["--strikt", good], [good, good]):
+            run([program, *words], 2)
         run([program, os.path.join(self.folder, "none")], 2)
         run([program, self.folder], 2)
         if os.path.exists("/dev/full"):
