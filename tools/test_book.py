@@ -306,6 +306,20 @@ class Explanations(unittest.TestCase):
         for name, parts in STRICT_EXPLAINED:
             self.assert_explained(name, answer_of(strict_line(name)), parts, True)
 
+    def test_quoted(self):
+        """Explanations on the pages are those of the samples."""
+        quoted = []
+        for page in ("README.md", os.path.join("docs", "BOOKS.md")):
+            quoted += re.findall(r"(?m)^    \$ python3 tools/book.py explain( --strict)? samples/"
+                                 r"(\S+)\.book\n((?:    .*\n)+)",
+                                 contents(os.path.join(TOP, page)).decode())
+        self.assertEqual(len(quoted), 3)
+        for strict, name, shown in quoted:
+            line = strict_line(name) if strict else sample(name, ".line")
+            lines = explain(sample(name, ".book"), answer_of(line), bool(strict))
+            expected = [line.decode().strip()] + ["  " + text for text in lines]
+            self.assertEqual(shown.split("\n")[:-1], ["    " + text for text in expected])
+
     def test_bad_roots(self):
         data = parse("source roots\n 0 MAX\nsource\n Var 1\ntarget\n Var 2\n Add 0 5\n"
                      "target roots\n 0 1\n")

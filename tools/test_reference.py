@@ -165,6 +165,16 @@ class Answers(unittest.TestCase):
         self.assertEqual(page, set(exported))
 
 
+    def test_strict_functions_take_the_same_lists(self):
+        for path, start, end in ((("include", "gilfrunt.h"), "gilfrunt_answer ", ";"),
+                                 (("examples", "gilfrunt.rs"), "    fn ", ";")):
+            for name in ("check", "judge"):
+                found = [re.findall(rf"(?ms)^{start}gilfrunt_{kind}{name}\((.*?)\).*?{end}$",
+                                    content(*path)) for kind in ("", "strict_")]
+                self.assertEqual(len(found[0]), 1)
+                self.assertEqual(found[0], found[1])
+
+
 class Books(unittest.TestCase):
     def test_sections(self):
         rows = table("BOOKS.md", "section")
