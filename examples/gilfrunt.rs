@@ -333,8 +333,7 @@ mod tests {
 
     #[test]
     fn strict_roots() {
-        let mut lists = [[9; 1]; 4];
-        let mut both = |width, source_roots: &[u64], target_roots: &[u64]| {
+        let both = |width, source_roots: &[u64], target_roots: &[u64]| {
             let (source, target) = ([0, width, 0, 0, 0], [0, width, 0, 0]);
             let of = Lowering {
                 source: &source,
@@ -345,15 +344,17 @@ mod tests {
                 ..Lowering::default()
             };
             [check, strict_check].map(|check| {
+                let mut lists = [[9]; 4];
                 let [source_widths, target_widths, classes, entries] = &mut lists;
-                check(&of, Lent { source_widths, target_widths, classes, entries })
+                (check(&of, Lent { source_widths, target_widths, classes, entries }), lists)
             })
         };
-        assert_eq!(both(1, &[0], &[0]), [answer(0, 0, 0), answer(0, 0, 0)]);
-        assert_eq!(both(8, &[0], &[0]), [answer(0, 0, 0), answer(19, 0, 1)]);
-        assert_eq!(both(1, &[0, 1], &[0]), [answer(12, 1, 0), answer(19, 1, 1)]);
-        assert_eq!(both(1, &[0], &[0, 1]), [answer(12, 0, 0), answer(19, 1, 2)]);
-        assert_eq!(lists, [[0], [0], [0], [0]]);
+        let accepted = |width| (answer(0, 0, 0), [[width], [width], [1], [0]]);
+        let refused = |number, place, detail| (answer(number, place, detail), [[0]; 4]);
+        assert_eq!(both(1, &[0], &[0]), [accepted(1), accepted(1)]);
+        assert_eq!(both(8, &[0], &[0]), [accepted(8), refused(19, 0, 1)]);
+        assert_eq!(both(1, &[0, 1], &[0]), [refused(12, 1, 0), refused(19, 1, 1)]);
+        assert_eq!(both(1, &[0], &[0, 1]), [refused(12, 0, 0), refused(19, 1, 2)]);
     }
 
     #[test]

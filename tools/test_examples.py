@@ -124,7 +124,8 @@ class Examples(unittest.TestCase):
             bodies[4] = pack(range(rows))
             with open(path, "wb") as file:
                 file.write(encode(bodies))
-            self.assertEqual(run([program, path], int(rows != 10000)), line)
+            for options in ([], ["--strict"]):
+                self.assertEqual(run([program, *options, path], int(rows != 10000)), line)
 
     def test_book_without_an_answer(self):
         program = self.book()
