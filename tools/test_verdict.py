@@ -98,9 +98,8 @@ class Answers(Release):
 
     def test_each_mode_has_its_program(self):
         other = self.program + " of the other mode"
-        for answer, status in (("accepted", 1), ("refused 19 0 1", 0)):
-            self.write(other, f"echo {answer}")
-            mine = ["accepted", "refused 20 0 0"][status]
+        for status, mine, its in ((0, "accepted", "refused 19 0 1"), (1, "refused 19 0 1", "accepted")):
+            self.write(other, f"echo {its}")
             self.assertEqual(self.printing(f"echo {mine}", other=other), (status, mine.encode() + b"\n"))
         self.write(other, "echo accepted")
         os.remove(self.program)
@@ -110,7 +109,7 @@ class Answers(Release):
         book = self.program + " a book"
         with open(book, "w", encoding="ascii") as file:
             file.write("accepted\n")
-        for arguments in ([book, "--strict"], ["--strict", "--strict"], ["--strikt"], ["-strict"], ["--strict="], ["--", book]):
+        for arguments in ([book, "--strict"], ["--strict", "--strict"], ["--strikt"], ["--strict="], ["--", book]):
             with self.subTest(arguments=arguments):
                 self.assertEqual(self.printing("echo accepted", *arguments, other=self.program), (2, b""))
 
