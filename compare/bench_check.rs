@@ -188,6 +188,7 @@ fn call(lists: &mut Lists, bits: &mut [Vec<u8>; 2], lent: &mut [Vec<u64>; 4]) ->
     };
     let [source_bits, target_bits] = bits;
     ours::check(
+        false,
         [
             source,
             side,

@@ -1,8 +1,8 @@
-//! Books by the scope's text: how one is written, the shape that 20 asks for,
-//! and the answer that the program `verdict` must print. It is a second
+//! Books by the scope's text: how one is written, the shape that 20 asks for, and the
+//! answer that the programs `verdict` and `strict_verdict` must print. It is a second
 //! statement; nothing of the library is used.
 
-use crate::check::{at, CHECK};
+use crate::check::{at, Check, CHECK};
 use crate::operation::{Kind, Lists, Operation};
 use crate::ours::Answer;
 use crate::rules::{answer, ACCEPTED, SOURCE, TARGET};
@@ -135,11 +135,11 @@ pub fn held(book: &[u8]) -> Lists {
     lists
 }
 
-/// The answer that the program must print: 20, or Check's by the Rust and the
-/// scope's rules.
-pub fn verdict(input: &[u8]) -> Answer {
+/// The answer that the program of a check must print: 20, or the check's by the Rust and
+/// the scope's rules.
+pub fn verdict(check: &Check, input: &[u8]) -> Answer {
     match input_shape(input) {
-        Shape::Good => CHECK.expected(&held(input)).answer,
+        Shape::Good => check.expected(&held(input)).answer,
         bad => bad.answer(),
     }
 }

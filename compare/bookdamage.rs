@@ -1,7 +1,8 @@
-//! Random books: those of Check's generators, whole or damaged, and others.
+//! Random books: those of the generators of Check and of the strict check, whole or
+//! damaged, and others.
 
 use crate::book::{draft, is_bits, Draft, CONTENTS, LONGEST, SECTIONS};
-use crate::check::{self, at, CHECK};
+use crate::check::{at, Check, CHECK, STRICT_CHECK};
 use crate::marked;
 use crate::operation::{Lists, Operation};
 use crate::random::Random;
@@ -9,26 +10,27 @@ use crate::tags::VAR;
 
 const MAX: u64 = u64::MAX;
 
-/// A random input for the program.
+/// A random input for the programs.
 pub fn generate(random: &mut Random) -> Vec<u8> {
     let rows = random.pick(&[4, 8, 16, 40]);
+    let check = random.pick(&[&CHECK, &STRICT_CHECK]);
     match random.below(100) {
-        0..=49 => draft(&CHECK.generate(random, rows)).bytes(),
-        50..=51 => sized(random),
+        0..=49 => draft(&check.generate(random, rows)).bytes(),
+        50..=51 => sized(random, check),
         52..=53 => noise(random),
         54..=55 => bodies_of_noise(random),
-        56..=59 => one_byte(random),
-        _ => damaged(random, rows),
+        56..=59 => one_byte(random, check),
+        _ => damaged(random, check, rows),
     }
 }
 
 /// A book with one or two damages to its contents or its length.
-fn damaged(random: &mut Random, rows: usize) -> Vec<u8> {
+fn damaged(random: &mut Random, check: &Check, rows: usize) -> Vec<u8> {
     let lists = match random.below(4) {
         0 => random_marked(random),
         1 => vec![vec![]; SECTIONS],
-        2 => check::undamaged(random, rows),
-        _ => CHECK.generate(random, rows),
+        2 => check.undamaged(random, rows),
+        _ => check.generate(random, rows),
     };
     let mut draft = draft(&lists);
     let times = random.pick(&[1, 1, 1, 2]);
@@ -189,9 +191,9 @@ fn bodies_of_noise(random: &mut Random) -> Vec<u8> {
 }
 
 /// A book with one byte changed, in the contents or anywhere.
-fn one_byte(random: &mut Random) -> Vec<u8> {
+fn one_byte(random: &mut Random, check: &Check) -> Vec<u8> {
     let rows = random.pick(&[4, 8, 16]);
-    let mut bytes = draft(&check::undamaged(random, rows)).bytes();
+    let mut bytes = draft(&check.undamaged(random, rows)).bytes();
     let place = match random.below(3) {
         0 => random.place(CONTENTS),
         _ => random.place(bytes.len()),
@@ -202,11 +204,11 @@ fn one_byte(random: &mut Random) -> Vec<u8> {
 
 /// A book about as long as the longest: filled up by rows, words or bits that
 /// change nothing in its lowering, to a length that is chosen.
-fn sized(random: &mut Random) -> Vec<u8> {
+fn sized(random: &mut Random, check: &Check) -> Vec<u8> {
     let rows = random.pick(&[4, 16, 40]);
     let mut lists = match random.below(3) {
-        0 => CHECK.generate(random, rows),
-        _ => check::undamaged(random, rows),
+        0 => check.generate(random, rows),
+        _ => check.undamaged(random, rows),
     };
     let near = LONGEST - 9 + random.place(20);
     let length = random.pick(&[LONGEST - 1, LONGEST, LONGEST, LONGEST + 1, near, 131_072]);

@@ -1,7 +1,7 @@
-//! The program `verdict` against the scope and the Rust: books go in at its
-//! standard input, whole or in pieces, and the line that it prints must be the
-//! expected one. The library's sections and verdicts are held to the scope on
-//! the same books.
+//! The programs `verdict` and `strict_verdict` against the scope and the Rust: books go
+//! in at their standard input, whole or in pieces, and the line that each prints must be
+//! the expected one. The library's sections and verdicts are held to the scope on the
+//! same books.
 
 use std::collections::BTreeMap;
 use std::io::{ErrorKind, Read, Result, Write};
@@ -11,13 +11,15 @@ use std::time::Duration;
 
 use crate::book::{self, Fault, Shape, LONGEST, SECTIONS};
 use crate::bookdamage;
-use crate::check::CHECK;
+use crate::changes;
+use crate::check::{Check, CHECK, STRICT_CHECK};
 use crate::functioncounts;
 use crate::judged;
-use crate::operation::Operation;
+use crate::operation::{Lists, Operation};
 use crate::ours::Answer;
 use crate::random::Random;
 use crate::rules::{self, ACCEPTED};
+use crate::strictcases;
 use crate::tally::nothing_missing;
 
 /// How many of a hundred random books go in piece by piece.
@@ -27,26 +29,35 @@ const IN_PIECES: u64 = 10;
 const PAUSES: usize = 16;
 
 struct Run<'a> {
-    program: &'a str,
-    /// By what the expected line says.
-    came: BTreeMap<String, u64>,
+    programs: [Program<'a>; 2],
     whole: u64,
     pieces: u64,
 }
 
-/// Gives the program the known cases with their changes and so many random
+/// A program, and the check that it prints the answer of.
+struct Program<'a> {
+    check: &'static Check,
+    path: &'a str,
+    /// By what the expected line says.
+    came: BTreeMap<String, u64>,
+}
+
+/// Gives the programs the known cases with their changes and so many random
 /// books; false at a disagreement or where an answer never came.
-pub fn books(seed: u64, cases: u64, program: &str) -> bool {
-    println!("seed {seed}, {program}, all known cases and {cases} random books");
-    let mut run = Run {
-        program,
+pub fn books(seed: u64, cases: u64, verdict: &str, strict: &str) -> bool {
+    println!("seed {seed}, {verdict}, {strict}, all known cases and {cases} random books");
+    let program = |(check, path)| Program {
+        check,
+        path,
         came: BTreeMap::new(),
+    };
+    let mut run = Run {
+        programs: [(&CHECK, verdict), (&STRICT_CHECK, strict)].map(program),
         whole: 0,
         pieces: 0,
     };
-    let known = (CHECK.known().into_iter().map(|(lists, _)| lists)).chain(CHECK.changed());
     let good = run.judge(&[], None, "no input")
-        && known.enumerate().all(|(k, lists)| {
+        && known().enumerate().all(|(k, lists)| {
             run.judge(
                 &book::draft(&lists).bytes(),
                 None,
@@ -58,35 +69,73 @@ pub fn books(seed: u64, cases: u64, program: &str) -> bool {
             let input = bookdamage::generate(&mut random);
             let pieces = random.below(100) < IN_PIECES;
             let which = format!("random case {case} of seed {seed}");
-            run.judge(&input, pieces.then_some(&mut random), &which)
+            run.judge(&input, pieces.then(|| random.word()), &which)
         });
     good && run.complete(cases)
 }
 
+/// Check's known cases and all their changes, then the strict check's small ones, and the
+/// changes of those that it accepts.
+fn known() -> impl Iterator<Item = Lists> {
+    let cases = CHECK.known().into_iter().map(|(lists, _)| lists);
+    let small = || strictcases::small().into_iter();
+    let accepted = small().filter(|&(_, answer)| answer == ACCEPTED);
+    (cases.chain(CHECK.changed()))
+        .chain(small().map(|(lists, _)| lists))
+        .chain(accepted.flat_map(|(lists, _)| changes::each(&lists)))
+}
+
 impl Run<'_> {
-    /// Runs the program on an input, in pieces where a generator of their sizes
-    /// is given; false, with a report, when it does not print the expected line.
-    fn judge(&mut self, input: &[u8], pieces: Option<&mut Random>, which: &str) -> bool {
-        let expected = book::verdict(input);
-        let labels = [
-            Some(label(input, expected)),
-            edge(input, expected),
-            judged_by(input, expected),
-        ];
-        for label in labels.into_iter().flatten() {
-            *self.came.entry(label).or_default() += 1;
-        }
+    /// Runs the programs on an input, in pieces where a seed of their sizes is given;
+    /// false, with a report, when one does not print the expected line.
+    fn judge(&mut self, input: &[u8], pieces: Option<u64>, which: &str) -> bool {
         match pieces {
             None => self.whole += 1,
             Some(_) => self.pieces += 1,
         }
-        let mut lengths = Random::of_case(input.len() as u64, self.whole + self.pieces);
-        if let Some(what) = judged::differs(input, &mut lengths) {
+        let number = self.whole + self.pieces;
+        if let Some(what) = judged::section_differs(input) {
             println!("DISAGREEMENT in {which}: {what}");
             show(input);
             return false;
         }
-        let printed = match ask(self.program, input, pieces) {
+        let mut programs = self.programs.iter_mut();
+        programs.all(|program| program.judge(input, number, pieces, which))
+    }
+
+    /// Prints what came; false if an answer never did in so many random cases.
+    fn complete(&self, cases: u64) -> bool {
+        self.programs.iter().for_each(Program::print);
+        let total = self.whole + self.pieces;
+        println!(
+            "{total} books, {} of them in pieces, all as expected",
+            self.pieces
+        );
+        let missing: Vec<String> = self.programs.iter().flat_map(Program::missing).collect();
+        nothing_missing(cases, &missing)
+    }
+}
+
+impl Program<'_> {
+    /// Judges a book of this number in the run.
+    fn judge(&mut self, input: &[u8], number: u64, pieces: Option<u64>, which: &str) -> bool {
+        let expected = book::verdict(self.check, input);
+        let labels = [
+            Some(label(input, expected)),
+            edge(input, expected),
+            judged_by(self.check, input, expected),
+        ];
+        for label in labels.into_iter().flatten() {
+            *self.came.entry(label).or_default() += 1;
+        }
+        let mut lengths = Random::of_case(input.len() as u64, number);
+        if let Some(what) = judged::verdict_differs(self.check, input, &mut lengths) {
+            println!("DISAGREEMENT in {which}: {what}");
+            show(input);
+            return false;
+        }
+        let mut pieces = pieces.map(Random::new);
+        let printed = match ask(self.path, input, pieces.as_mut()) {
             Ok(printed) => printed,
             Err(error) => format!("nothing: {error}\n"),
         };
@@ -94,7 +143,8 @@ impl Run<'_> {
             return true;
         }
         println!(
-            "DISAGREEMENT in {which}, an input of {} bytes:",
+            "DISAGREEMENT of {} in {which}, an input of {} bytes:",
+            self.path,
             input.len()
         );
         show(input);
@@ -102,21 +152,19 @@ impl Run<'_> {
         false
     }
 
-    /// Prints what came; false if an answer never did in so many random cases.
-    fn complete(&self, cases: u64) -> bool {
+    fn print(&self) {
+        println!("{}, by {}", self.path, self.check.name());
         for (label, count) in &self.came {
             println!("  {label}: {count:8}");
         }
-        let total = self.whole + self.pieces;
-        println!(
-            "{total} books, {} of them in pieces, all as expected",
-            self.pieces
-        );
-        let missing: Vec<String> = due()
+    }
+
+    /// Each thing that never came.
+    fn missing(&self) -> impl Iterator<Item = String> + '_ {
+        let never = due(self.check)
             .into_iter()
-            .filter(|label| !self.came.contains_key(label))
-            .collect();
-        nothing_missing(cases, &missing)
+            .filter(|label| !self.came.contains_key(label));
+        never.map(|label| format!("{}: {label}", self.check.name()))
     }
 }
 
@@ -126,9 +174,10 @@ fn show(input: &[u8]) {
     println!("{}", bytes.join(" "));
 }
 
-/// The answer's number, and for 20 its place with the reason.
+/// The answer's number, for 19 its detail, and for 20 its place with the reason.
 fn label(input: &[u8], expected: Answer) -> String {
     match book::input_shape(input) {
+        Shape::Good if expected.number == 19 => rooted(expected.detail),
         Shape::Good => numbered(expected.number),
         bad => shaped(bad),
     }
@@ -145,16 +194,16 @@ fn edge(input: &[u8], expected: Answer) -> Option<String> {
 }
 
 /// Who answered about a book that has good shape and is not refused by 15 to 18.
-fn judged_by(input: &[u8], expected: Answer) -> Option<String> {
+fn judged_by(check: &Check, input: &[u8], expected: Answer) -> Option<String> {
     if book::input_shape(input) != Shape::Good || (15..=18).contains(&expected.number) {
         return None;
     }
     let held = book::held(input);
-    let above = || rules::above(CHECK.lists(), &held).is_some();
+    let above = || rules::above(check.lists(), &held).is_some();
     if matches!(expected.number, 1 | 2) && above() {
         return Some(by_rule(expected.number));
     }
-    if CHECK.told_apart(&held) {
+    if check.told_apart(&held) {
         return Some(by_widths(expected.number));
     }
     Some(BY_RUST.to_string())
@@ -178,6 +227,10 @@ fn numbered(number: u64) -> String {
     format!("answer {number:2}")
 }
 
+fn rooted(detail: u64) -> String {
+    format!("{} for {detail}", numbered(19))
+}
+
 fn shaped(shape: Shape) -> String {
     let reason = match shape {
         Shape::Section(_, Fault::Start) => ", start",
@@ -188,9 +241,12 @@ fn shaped(shape: Shape) -> String {
     format!("answer 20 at {:2}{reason}", shape.answer().place)
 }
 
-/// What must come. 18 cannot: the program's work lists are long enough.
-fn due() -> Vec<String> {
+/// What must come. 18 cannot: the programs' work lists are long enough.
+fn due(check: &Check) -> Vec<String> {
     let mut due: Vec<String> = (0..=17).map(numbered).collect();
+    if check.strict {
+        due.extend([1, 2].map(rooted));
+    }
     due.extend([Shape::Short, Shape::LeftOver, Shape::Long].map(shaped));
     due.extend([LAST_TAKEN, FIRST_REFUSED, BY_RUST].map(String::from));
     due.extend([1, 2].map(by_rule));

@@ -1,15 +1,16 @@
-//! Check as an operation. The answer that is expected comes from the published
-//! Rust; from the ceiling where a row passes it; from restated.rs where calls of one
-//! number and count are told apart by their widths. Classes and entry offsets, which
+//! Check as an operation, and the strict check. The answer that is expected comes from
+//! the published Rust; from the ceiling where a row passes it; from restated.rs where
+//! calls of one number and count are told apart by their widths. The strict check asks
+//! the Rust's `roots_wf` about both root lists before. Classes and entry offsets, which
 //! the Rust keeps to itself, come from restated.rs. The second reference is
 //! restated.rs where the Rust is the first, else the Rust with the functions renamed.
-//! selftest.rs runs it without the library.
+//! selftest.rs runs both without the library.
 
 use crate::ceilingcases;
 use crate::changes;
 use crate::features;
 use crate::functioncases;
-use crate::functions;
+use crate::functions::{self, Rule};
 use crate::lowering;
 use crate::marked;
 use crate::operation::{Feature, Kind, Lists, Operation, Outcome};
@@ -18,13 +19,27 @@ use crate::random::Random;
 use crate::reference;
 use crate::renamed::renamed;
 use crate::restated::{self, Written};
+use crate::rootcounts;
+use crate::rootspoil;
 use crate::rules::{self, ACCEPTED, SOURCE, TARGET};
 use crate::spoil;
+use crate::strict::Strict;
+use crate::strictcases;
 use crate::tags::{names_row, BOOL_OR};
 
-pub struct Check;
+pub struct Check {
+    /// Must every root have one bit?
+    pub strict: bool,
+}
 
-pub const CHECK: Check = Check;
+pub const CHECK: Check = Check { strict: false };
+
+pub const STRICT_CHECK: Check = Check { strict: true };
+
+/// Its numbers; the last is the strict check's alone.
+const ANSWERS: [u64; 20] = [
+    0, 1, 2, 3, 4, 5, 6, 7, 8, 9, 10, 11, 12, 13, 14, 15, 16, 17, 18, 19,
+];
 
 /// The places of its lists.
 pub mod at {
@@ -45,11 +60,17 @@ pub mod at {
 
 impl Operation for Check {
     fn number(&self) -> u64 {
-        5
+        match self.strict {
+            false => 5,
+            true => 8,
+        }
     }
 
     fn name(&self) -> &'static str {
-        "check"
+        match self.strict {
+            false => "check",
+            true => "strict check",
+        }
     }
 
     fn lists(&self) -> &'static [(&'static str, Kind)] {
@@ -73,9 +94,10 @@ impl Operation for Check {
     }
 
     fn answers(&self) -> &'static [u64] {
-        &[
-            0, 1, 2, 3, 4, 5, 6, 7, 8, 9, 10, 11, 12, 13, 14, 15, 16, 17, 18,
-        ]
+        match self.strict {
+            false => &ANSWERS[..19],
+            true => &ANSWERS,
+        }
     }
 
     fn parts(&self) -> &'static [(u64, u64)] {
@@ -94,10 +116,16 @@ impl Operation for Check {
     }
 
     fn features(&self) -> Vec<Feature> {
-        features::features()
+        match self.strict {
+            false => features::features(),
+            true => rootcounts::features(),
+        }
     }
 
     fn known(&self) -> Vec<(Lists, Answer)> {
+        if self.strict {
+            return strictcases::known();
+        }
         let accepted = marked::accepted().into_iter();
         accepted
             .map(|lists| (lists, ACCEPTED))
@@ -108,19 +136,29 @@ impl Operation for Check {
     }
 
     fn changed(&self) -> Vec<Lists> {
-        let accepted = marked::accepted().into_iter();
+        let accepted = match self.strict {
+            false => marked::accepted(),
+            true => strictcases::accepted(),
+        };
         let told_apart = functioncases::to_change();
-        accepted
+        (accepted.into_iter())
             .chain(told_apart)
             .flat_map(|lists| changes::each(&lists))
             .collect()
     }
 
-    /// An accepted lowering, then none to three damages.
+    /// An accepted lowering, then none to three damages; for the strict check often to
+    /// the roots too, and now and then with roots of any width.
     fn generate(&self, random: &mut Random, rows: usize) -> Lists {
-        let mut lists = undamaged(random, rows);
+        if self.strict && random.once_in(10) {
+            return CHECK.generate(random, rows);
+        }
+        let mut lists = self.undamaged(random, rows);
         for _ in 0..random.pick(&[0, 0, 1, 1, 1, 1, 1, 1, 2, 3]) {
             spoil::spoil(random, self.lists(), &mut lists);
+        }
+        if self.strict && random.once_in(3) {
+            rootspoil::spoil(random, &mut lists);
         }
         lists
     }
@@ -129,7 +167,7 @@ impl Operation for Check {
         let mut lists = lists.clone();
         let mut bits = [at::SOURCE_BITS, at::TARGET_BITS]
             .map(|list| lists[list].iter().map(|&b| b as u8).collect::<Vec<u8>>());
-        let (answer, strayed) = call(&mut lists, &mut bits);
+        let (answer, strayed) = call(self.strict, &mut lists, &mut bits);
         for (list, bits) in [at::SOURCE_BITS, at::TARGET_BITS].into_iter().zip(bits) {
             lists[list] = bits.into_iter().map(u64::from).collect();
         }
@@ -141,12 +179,13 @@ impl Operation for Check {
     }
 
     fn expected(&self, lists: &Lists) -> Outcome {
-        let asked = || match self.told_apart(lists) {
-            true => restated::check(lists).0,
+        let asked = || match functions::told_apart(lists) {
+            true => self.restated(lists).0,
             false => reference::check(lists),
         };
         let answer = rules::check(lists)
             .or_else(|| rules::above(self.lists(), lists))
+            .or_else(|| self.bad_root(lists))
             .unwrap_or_else(asked);
         with_widths(lists, answer)
     }
@@ -159,12 +198,14 @@ impl Operation for Check {
             let answer = reference::check(&renamed(lists)?);
             return Some(with_widths(lists, answer));
         }
-        let (answer, written) = restated::check(lists);
+        let (answer, written) = self.restated(lists);
         Some(outcome(lists, answer, &written))
     }
 
     fn told_apart(&self, lists: &Lists) -> bool {
-        rules::check(lists).is_none() && functions::told_apart(lists)
+        rules::check(lists).is_none()
+            && functions::told_apart(lists)
+            && self.bad_root(lists).is_none()
     }
 
     /// The case without a row, later rows counted anew; without an entry of a
@@ -185,8 +226,28 @@ impl Operation for Check {
     }
 }
 
+impl Check {
+    /// An accepted lowering, with lent lists that fit it or have words to spare.
+    pub fn undamaged(&self, random: &mut Random, rows: usize) -> Lists {
+        let lists = match self.strict {
+            false => lowering::accepted(random, rows),
+            true => lowering::strict(random, rows),
+        };
+        lent(random, lists)
+    }
+
+    /// 19 by the Rust, in the strict check.
+    fn bad_root(&self, lists: &Lists) -> Option<Answer> {
+        self.strict.then(|| reference::bad_root(lists)).flatten()
+    }
+
+    fn restated(&self, lists: &Lists) -> (Answer, Written) {
+        restated::check_by(Rule::Right, Strict::of(self.strict), lists)
+    }
+}
+
 /// The library's answer, each lent list between fences, and whether it wrote to one.
-fn call(lists: &mut Lists, bits: &mut [Vec<u8>; 2]) -> (Answer, bool) {
+fn call(strict: bool, lists: &mut Lists, bits: &mut [Vec<u8>; 2]) -> (Answer, bool) {
     let [source, _, side, source_roots, map, reads, calls, arguments, target, _, target_roots, ws0, ws1, classes, entries] =
         &mut lists[..]
     else {
@@ -197,6 +258,7 @@ fn call(lists: &mut Lists, bits: &mut [Vec<u8>; 2]) -> (Answer, bool) {
     let (answer, outer) = ours::fenced_both([ws0, ws1], |ws0, ws1| {
         let (answer, strayed) = ours::fenced_both([classes, entries], |classes, entries| {
             ours::check(
+                strict,
                 [
                     source,
                     side,
@@ -216,12 +278,6 @@ fn call(lists: &mut Lists, bits: &mut [Vec<u8>; 2]) -> (Answer, bool) {
         answer
     });
     (answer, inner || outer)
-}
-
-/// An accepted lowering, with lent lists that fit it or have words to spare.
-pub fn undamaged(random: &mut Random, rows: usize) -> Lists {
-    let lists = lowering::accepted(random, rows);
-    lent(random, lists)
 }
 
 /// The lists of a lowering, with lent lists that fit it or have words to spare.

@@ -1,9 +1,9 @@
 //! The library's sections and verdicts on a book against the scope: each
-//! section's answer and stretch, and the verdict with five lent lists of any
-//! length, each whole.
+//! section's answer and stretch, and the verdict, strict or not, with five lent lists of
+//! any length, each whole.
 
 use crate::book::{self, Shape, SECTIONS};
-use crate::check::{at, CHECK};
+use crate::check::{at, Check};
 use crate::operation::Operation;
 use crate::ours::{self, Answer};
 use crate::random::Random;
@@ -17,27 +17,30 @@ fn numbers() -> impl Iterator<Item = u64> {
     (0..=SECTIONS as u64 + 1).chain([u64::MAX, 1 << 32])
 }
 
-/// Nothing where the library answers as the scope asks, or what differs.
-pub fn differs(input: &[u8], random: &mut Random) -> Option<String> {
-    for number in numbers() {
-        if ours::section(input, number) != book::section(input, number) {
-            return Some(format!("section {number}"));
-        }
-    }
+/// Nothing where the library's sections are as the scope asks, or what differs.
+pub fn section_differs(input: &[u8]) -> Option<String> {
+    let differs = |number: &u64| ours::section(input, *number) != book::section(input, *number);
+    let number = numbers().find(differs)?;
+    Some(format!("section {number}"))
+}
+
+/// The same for the verdict of a check.
+pub fn verdict_differs(check: &Check, input: &[u8], random: &mut Random) -> Option<String> {
     let lent = lists(input, random);
-    let expected = expected(input, &lent);
+    let expected = expected(check, input, &lent);
     let mut after = lent.clone();
     let mut bytes = input.to_vec();
     let [a, b, c, d, e] = &mut after[..] else {
         unreachable!("five lists")
     };
-    let answer = ours::judge(&mut bytes, [a, b, c, d, e]);
+    let answer = ours::judge(check.strict, &mut bytes, [a, b, c, d, e]);
     if bytes != input {
         return Some("the book was written to".to_string());
     }
     ((answer, after) != expected).then(|| {
         format!(
-            "the library's verdict, lists of {:?} words",
+            "the library's verdict by {}, lists of {:?} words",
+            check.name(),
             lent.iter().map(Vec::len).collect::<Vec<_>>()
         )
     })
@@ -72,7 +75,7 @@ fn lists(input: &[u8], random: &mut Random) -> Lent {
 }
 
 /// The answer and the five lists that the scope asks for.
-fn expected(input: &[u8], lent: &Lent) -> (Answer, Lent) {
+fn expected(check: &Check, input: &[u8], lent: &Lent) -> (Answer, Lent) {
     let zeros = || lent.iter().map(|list| vec![0; list.len()]).collect();
     let shape = book::shape(input);
     if shape != Shape::Good {
@@ -81,7 +84,7 @@ fn expected(input: &[u8], lent: &Lent) -> (Answer, Lent) {
     let mut lists = book::held(input);
     lists.truncate(at::LENT);
     lists.extend(lent[..4].iter().cloned());
-    let checked = CHECK.expected(&lists);
+    let checked = check.expected(&lists);
     if [15, 18].contains(&checked.answer.number) {
         return (checked.answer, lent.clone());
     }

@@ -5,7 +5,7 @@
 use std::collections::BTreeSet;
 
 use crate::book;
-use crate::check::{self, CHECK};
+use crate::check::CHECK;
 use crate::functioncounts;
 use crate::graphs::{Builder, Style};
 use crate::listed;
@@ -184,7 +184,7 @@ fn any(_lists: &Lists) -> bool {
 fn showing_features(random: &mut Random, list: &mut List) -> bool {
     CHECK.features().into_iter().all(|(_, has)| {
         let shows = |lists: &Lists, answer: Answer| answer == ACCEPTED && has(lists);
-        list.add_shown(shows, || check::undamaged(random, MIDDLE.rows))
+        list.add_shown(shows, || CHECK.undamaged(random, MIDDLE.rows))
     })
 }
 
@@ -281,7 +281,7 @@ impl List {
     fn add_books(&mut self, random: &mut Random) -> bool {
         let mut answers = BTreeSet::new();
         for book in listedbooks::verdicts(random) {
-            let answer = book::verdict(&book);
+            let answer = book::verdict(&CHECK, &book);
             answers.insert((VERDICT, answer.number, by_place(answer)));
             self.add_line(words_line(VERDICT, &[bytes(&book)], answer, &[]));
         }

@@ -122,7 +122,7 @@ fn shortest(random: &mut Random, number: u64) -> Vec<u8> {
     let mut found: Vec<Vec<u8>> = Vec::new();
     while found.len() < CHOICE {
         let book = book::draft(&CHECK.generate(random, 4)).bytes();
-        if book::verdict(&book).number == number {
+        if book::verdict(&CHECK, &book).number == number {
             found.push(book);
         }
     }

@@ -38,6 +38,17 @@ pub fn accepted(random: &mut Random, rows: usize) -> Lists {
     writer.written(roots)
 }
 
+/// The same with roots of one bit.
+pub fn strict(random: &mut Random, rows: usize) -> Lists {
+    let mut source = sources::source(random, rows);
+    let count = match source.len() {
+        0 => source.random.pick(&[0, 0, 1]),
+        _ => source.random.place(6),
+    };
+    let roots = (0..count).map(|_| source.one_bit_row()).collect();
+    of(source, roots)
+}
+
 /// The same of this source with these roots.
 pub fn of(source: Builder, roots: Vec<u64>) -> Lists {
     Writer::new(source).written(roots)

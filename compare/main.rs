@@ -4,7 +4,8 @@
 //! with the expected outcomes, `bench` takes times, `smt` writes the library's
 //! values as a script for a solver, `check-self` holds two statements of Check
 //! against each other, `choices` tries that source and target leave the same choices,
-//! `books` gives books to the program `verdict`, `slow` times it.
+//! `books` gives books to the programs `verdict` and `strict_verdict`, `slow` times the
+//! first.
 //! docs/COMPARISON.md tells more; `compare/run` builds and starts this program.
 
 mod bench;
@@ -58,7 +59,9 @@ mod random;
 mod reference;
 mod renamed;
 mod restated;
+mod rootcounts;
 mod roots;
+mod rootspoil;
 mod rules;
 mod selftest;
 mod show;
@@ -69,6 +72,8 @@ mod smt;
 mod sources;
 mod spoil;
 mod statement;
+mod strict;
+mod strictcases;
 mod tags;
 mod tally;
 mod tiny;
@@ -83,7 +88,7 @@ use std::process::ExitCode;
 use operation::{Operation, OPERATIONS};
 
 const USAGE: &str = "usage: [compare|bench|list|smt|check-self|choices|books|slow] \
-[--seed N] [--cases N] [--rows N] [--only NAME] [--verdict PROGRAM]";
+[--seed N] [--cases N] [--rows N] [--only NAME] [--verdict PROGRAM] [--strict-verdict PROGRAM]";
 
 /// The words of the command line.
 struct Command {
@@ -93,6 +98,7 @@ struct Command {
     rows: u64,
     only: Option<&'static dyn Operation>,
     verdict: String,
+    strict_verdict: String,
 }
 
 /// The operation of this name, its words joined by hyphens.
@@ -109,6 +115,7 @@ fn command(mut words: impl Iterator<Item = String>) -> Option<Command> {
         rows: 20_000,
         only: None,
         verdict: "target/bin/verdict".to_string(),
+        strict_verdict: "target/bin/strict_verdict".to_string(),
     };
     while let Some(word) = words.next() {
         match word.as_str() {
@@ -117,6 +124,7 @@ fn command(mut words: impl Iterator<Item = String>) -> Option<Command> {
             "--rows" => command.rows = words.next()?.parse().ok()?,
             "--only" => command.only = Some(operation(&words.next()?)?),
             "--verdict" => command.verdict = words.next()?,
+            "--strict-verdict" => command.strict_verdict = words.next()?,
             "compare" | "bench" | "list" | "smt" | "check-self" | "choices" | "books" | "slow" => {
                 command.what = word
             }
@@ -142,7 +150,10 @@ fn main() -> ExitCode {
         "smt" => smt::smt(command.seed, command.rows),
         "check-self" => selftest::selftest(command.seed, cases),
         "choices" => choices::choices(command.seed, cases),
-        "books" => books::books(command.seed, cases, &command.verdict),
+        "books" => {
+            let programs = [&command.verdict, &command.strict_verdict];
+            books::books(command.seed, cases, programs[0], programs[1])
+        }
         "slow" => slow::slow(&command.verdict),
         _ => compare::compare(command.seed, cases, command.only),
     };

@@ -2,7 +2,7 @@
 //! lists, all held as words (a bit byte is a word too, at most 255); generators,
 //! shrinker and printers go by the kinds of the lists alone.
 
-use crate::check::CHECK;
+use crate::check::{CHECK, STRICT_CHECK};
 use crate::ours::Answer;
 use crate::random::Random;
 use crate::roots::ROOTS;
@@ -102,12 +102,13 @@ pub trait Operation: Sync {
 }
 
 /// Every operation, with how many of a hundred random cases it gets.
-pub const OPERATIONS: [(&dyn Operation, u64); 5] = [
+pub const OPERATIONS: [(&dyn Operation, u64); 6] = [
     (&SOURCE_WIDTHS, 20),
     (&TARGET_WIDTHS, 10),
     (&ROOTS, 5),
     (&VALUES, 20),
-    (&CHECK, 45),
+    (&CHECK, 30),
+    (&STRICT_CHECK, 15),
 ];
 
 /// Two outcomes of a case that must be equal.

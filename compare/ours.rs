@@ -64,55 +64,72 @@ extern "C" {
     fn gilfrunt_section_answer(book: *const u8, book_len: usize, number: u64) -> Answer;
 
     fn gilfrunt_section(book: *const u8, book_len: usize, number: u64) -> Stretch;
-
-    fn gilfrunt_judge(
-        book: *const u8,
-        book_len: usize,
-        source_widths: *mut u64,
-        source_widths_len: usize,
-        target_widths: *mut u64,
-        target_widths_len: usize,
-        classes: *mut u64,
-        classes_len: usize,
-        entries: *mut u64,
-        entries_len: usize,
-        words: *mut u64,
-        words_len: usize,
-    ) -> Answer;
-
-    fn gilfrunt_check(
-        source: *const u64,
-        source_len: usize,
-        source_bits: *const u8,
-        source_bits_len: usize,
-        side: *const u64,
-        side_len: usize,
-        source_roots: *const u64,
-        source_roots_len: usize,
-        map: *const u64,
-        map_len: usize,
-        reads: *const u64,
-        reads_len: usize,
-        calls: *const u64,
-        calls_len: usize,
-        arguments: *const u64,
-        arguments_len: usize,
-        target: *const u64,
-        target_len: usize,
-        target_bits: *const u8,
-        target_bits_len: usize,
-        target_roots: *const u64,
-        target_roots_len: usize,
-        source_widths: *mut u64,
-        source_widths_len: usize,
-        target_widths: *mut u64,
-        target_widths_len: usize,
-        classes: *mut u64,
-        classes_len: usize,
-        entries: *mut u64,
-        entries_len: usize,
-    ) -> Answer;
 }
+
+/// Functions of these names over the same lists.
+macro_rules! judges {
+    ($($name:ident)*) => {
+        extern "C" {$(
+            fn $name(
+                book: *const u8,
+                book_len: usize,
+                source_widths: *mut u64,
+                source_widths_len: usize,
+                target_widths: *mut u64,
+                target_widths_len: usize,
+                classes: *mut u64,
+                classes_len: usize,
+                entries: *mut u64,
+                entries_len: usize,
+                words: *mut u64,
+                words_len: usize,
+            ) -> Answer;
+        )*}
+    };
+}
+
+/// Functions of these names over the same lists.
+macro_rules! checks {
+    ($($name:ident)*) => {
+        extern "C" {$(
+            fn $name(
+                source: *const u64,
+                source_len: usize,
+                source_bits: *const u8,
+                source_bits_len: usize,
+                side: *const u64,
+                side_len: usize,
+                source_roots: *const u64,
+                source_roots_len: usize,
+                map: *const u64,
+                map_len: usize,
+                reads: *const u64,
+                reads_len: usize,
+                calls: *const u64,
+                calls_len: usize,
+                arguments: *const u64,
+                arguments_len: usize,
+                target: *const u64,
+                target_len: usize,
+                target_bits: *const u8,
+                target_bits_len: usize,
+                target_roots: *const u64,
+                target_roots_len: usize,
+                source_widths: *mut u64,
+                source_widths_len: usize,
+                target_widths: *mut u64,
+                target_widths_len: usize,
+                classes: *mut u64,
+                classes_len: usize,
+                entries: *mut u64,
+                entries_len: usize,
+            ) -> Answer;
+        )*}
+    };
+}
+
+judges!(gilfrunt_judge gilfrunt_strict_judge);
+checks!(gilfrunt_check gilfrunt_strict_check);
 
 pub fn source_widths(
     source: &mut [u64],
@@ -185,15 +202,24 @@ pub fn values(
     }
 }
 
-/// Check over its nine lists of words in the library's order, its two lists of
-/// bits and the four lent lists.
-pub fn check(words: [&mut [u64]; 9], bits: [&mut [u8]; 2], lent: [&mut [u64]; 4]) -> Answer {
+/// Check, or the strict one, over its nine lists of words in the library's order, its
+/// two lists of bits and the four lent lists.
+pub fn check(
+    strict: bool,
+    words: [&mut [u64]; 9],
+    bits: [&mut [u8]; 2],
+    lent: [&mut [u64]; 4],
+) -> Answer {
+    let function = match strict {
+        false => gilfrunt_check,
+        true => gilfrunt_strict_check,
+    };
     let [source, side, source_roots, map, reads, calls, arguments, target, target_roots] = words;
     let [source_bits, target_bits] = bits;
     let [source_widths, target_widths, classes, entries] = lent;
     // As above.
     unsafe {
-        gilfrunt_check(
+        function(
             source.as_mut_ptr(),
             source.len(),
             source_bits.as_mut_ptr(),
@@ -243,12 +269,16 @@ pub fn section(book: &[u8], number: u64) -> (Answer, &[u8]) {
     )
 }
 
-/// The verdict on a book, with its five lent lists.
-pub fn judge(book: &mut [u8], lent: [&mut [u64]; 5]) -> Answer {
+/// The verdict on a book, or the strict one, with its five lent lists.
+pub fn judge(strict: bool, book: &mut [u8], lent: [&mut [u64]; 5]) -> Answer {
+    let function = match strict {
+        false => gilfrunt_judge,
+        true => gilfrunt_strict_judge,
+    };
     let [source_widths, target_widths, classes, entries, words] = lent;
     // As above.
     unsafe {
-        gilfrunt_judge(
+        function(
             book.as_mut_ptr(),
             book.len(),
             source_widths.as_mut_ptr(),

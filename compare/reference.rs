@@ -143,6 +143,19 @@ pub fn roots(widths: &[u64], roots: &[u64]) -> Result<(), u64> {
     }
 }
 
+/// 19 by `roots_wf`, where both graphs are well formed: the first root of the source
+/// that it refuses, or else the first of the target.
+pub fn bad_root(lists: &Lists) -> Option<Answer> {
+    let bits = |place: usize| lists[place].len();
+    let source = source_widths(&lists[at::SOURCE], bits(at::SOURCE_BITS), &lists[at::SIDE]).ok()?;
+    let target = target_widths(&lists[at::TARGET], bits(at::TARGET_BITS)).ok()?;
+    let graphs = [(1, source, at::SOURCE_ROOTS), (2, target, at::TARGET_ROOTS)];
+    graphs.into_iter().find_map(|(detail, widths, list)| {
+        let position = roots(&widths, &lists[list]).err()?;
+        Some(answer(19, position, detail))
+    })
+}
+
 /// What `check_sliver_lowering` takes, made of words.
 pub struct Sliver {
     source: Vec<ExtNode>,

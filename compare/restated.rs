@@ -1,13 +1,15 @@
 //! Check once more, after the scope's text and without the published Rust: the
 //! answer, and what acceptance leaves in the four lent lists. It looks only
 //! where none of 15 to 18 applies. Widths are in wellformed.rs, roots in
-//! congruence.rs, and what makes two calls one function is in functions.rs.
+//! congruence.rs, what makes two calls one function is in functions.rs, and the step
+//! that the strict check has more is in strict.rs.
 
 use crate::check::at as place;
 use crate::functions::{Asked, Rule};
 use crate::operation::Lists;
 use crate::ours::Answer;
 use crate::rules::{answer, ACCEPTED, SOURCE, TARGET};
+use crate::strict::{Step, Strict};
 use crate::tags::*;
 use crate::wellformed::{at, row_widths, rows, stretch, Row};
 
@@ -35,15 +37,18 @@ pub struct Check<'l> {
     pub entries: Vec<u64>,
     /// Which calls are of one function.
     pub rule: Rule,
+    /// Which roots are taken.
+    pub strict: Strict,
 }
 
 /// The answer, and the four lists where it is acceptance.
 pub fn check(lists: &Lists) -> (Answer, Written) {
-    check_by(Rule::Right, lists)
+    check_by(Rule::Right, Strict::No, lists)
 }
 
-/// The same where a rule says which calls are of one function.
-pub fn check_by(rule: Rule, lists: &Lists) -> (Answer, Written) {
+/// The same where one rule says which calls are of one function, and another which
+/// roots are taken.
+pub fn check_by(rule: Rule, strict: Strict, lists: &Lists) -> (Answer, Written) {
     let target = rows(&lists[place::TARGET], TARGET.row);
     let mut check = Check {
         source: rows(&lists[place::SOURCE], SOURCE.row),
@@ -58,6 +63,7 @@ pub fn check_by(rule: Rule, lists: &Lists) -> (Answer, Written) {
         classes: vec![0; target.len()],
         entries: vec![0; target.len()],
         rule,
+        strict,
         target,
         target_bits: &lists[place::TARGET_BITS],
         target_roots: &lists[place::TARGET_ROOTS],
@@ -79,10 +85,12 @@ impl Check<'_> {
         let target = row_widths(&self.target, self.target_bits.len(), &[])
             .map_err(|row| answer(2, row, 0))?;
         self.widths = [source, target];
+        self.strict_roots(Step::Widths)?;
         let (rows, words) = (self.source.len() as u64, self.map.len() as u64);
         if rows != words {
             return Err(answer(3, rows, words));
         }
+        self.strict_roots(Step::MapLength)?;
         self.read_table()?;
         self.call_table()?;
         for row in 0..rows {

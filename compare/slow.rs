@@ -7,7 +7,7 @@ use std::time::Instant;
 
 use crate::book::{self, CONTENTS, LONGEST};
 use crate::books;
-use crate::check::at;
+use crate::check::{at, CHECK};
 use crate::functions::told_apart;
 use crate::operation::Lists;
 use crate::reference;
@@ -41,7 +41,7 @@ pub fn slow(program: &str) -> bool {
 
 fn timed(program: &str, name: &str, lists: Option<Lists>) -> bool {
     let input = lists.map_or(Vec::new(), |lists| book::draft(&lists).bytes());
-    let line = book::line(book::verdict(&input));
+    let line = book::line(book::verdict(&CHECK, &input));
     let mut good = true;
     let ours = least(|| good &= books::ask(program, &input, None).is_ok_and(|it| it == line));
     let rust = match book::shape(&input) {

@@ -39,6 +39,16 @@ impl Builder<'_> {
         }
     }
 
+    /// A row of one bit, to be a root: one that is there, or a new relation.
+    pub fn one_bit_row(&mut self) -> u64 {
+        if !self.random.once_in(3) {
+            return self.row_of(1);
+        }
+        let tag = self.random.pick(&[EQ, EQ, NE, ULT, SGE, NOT, BOOL_AND]);
+        self.row(tag);
+        self.len() as u64 - 1
+    }
+
     /// A row of width 32, to be an index.
     pub fn index(&mut self) {
         match self.random.below(8) {

@@ -1,12 +1,13 @@
 //! What a run has met so far: answers, tags, features, edge words, rows at the
-//! ceiling, functions told apart. It prints the counts and says whether anything that
+//! ceiling, functions told apart, roots of another width. It prints the counts and says whether anything that
 //! must come is missing.
 
 use crate::ceilingcounts::CeilingCounts;
-use crate::check::CHECK;
+use crate::check::{CHECK, STRICT_CHECK};
 use crate::functioncounts::FunctionCounts;
 use crate::operation::{Feature, Kind, Lists, Operation};
 use crate::ours::Answer;
+use crate::rootcounts::RootCounts;
 use crate::rules::ACCEPTED;
 
 /// Words from here on are near 2^64 - 1.
@@ -48,8 +49,10 @@ struct Counts {
     /// Cases that the second reference judged, and their rows.
     second: [u64; 2],
     ceiling: CeilingCounts,
-    /// In Check alone.
+    /// In Check, strict or not.
     functions: Option<FunctionCounts>,
+    /// In the strict check.
+    roots: Option<RootCounts>,
 }
 
 impl Tally {
@@ -77,6 +80,8 @@ impl Tally {
         let functions = counts.functions.as_mut();
         let told_apart = functions.is_some_and(|of| of.count(operation, lists, answer));
         counts.ceiling.count(lists, answer, told_apart);
+        let roots = counts.roots.iter_mut();
+        roots.for_each(|roots| roots.count(lists, answer));
         if let (Kind::Rows(row), true) = (operation.lists()[0].1, operation.tags() > 0) {
             counts.count_tags(row, &lists[0], answer);
         }
@@ -109,7 +114,8 @@ impl Tally {
 impl Counts {
     fn new(operation: &'static dyn Operation) -> Counts {
         let fields = operation.lists().iter().map(|(_, kind)| kind.fields());
-        let calls = operation.number() == CHECK.number();
+        let strict = operation.number() == STRICT_CHECK.number();
+        let calls = strict || operation.number() == CHECK.number();
         Counts {
             operation,
             answers: [0; 32],
@@ -121,6 +127,7 @@ impl Counts {
             second: [0; 2],
             ceiling: CeilingCounts::new(operation),
             functions: calls.then(FunctionCounts::default),
+            roots: strict.then(RootCounts::default),
         }
     }
 
@@ -167,6 +174,7 @@ impl Counts {
         }
         self.ceiling.print();
         self.functions.iter().for_each(FunctionCounts::print);
+        self.roots.iter().for_each(RootCounts::print);
         let least = |counts: &[u64]| counts.iter().min().copied().unwrap_or(0);
         let high = self.high.iter().flatten().copied().collect::<Vec<u64>>();
         println!(
@@ -212,7 +220,8 @@ impl Counts {
             due(*count, format!("the answer {number} for {part}"));
         }
         let functions = self.functions.iter().flat_map(FunctionCounts::due);
-        for (count, what) in self.ceiling.due().into_iter().chain(functions) {
+        let roots = self.roots.iter().flat_map(RootCounts::due);
+        for (count, what) in self.ceiling.due().into_iter().chain(functions).chain(roots) {
             due(count, what);
         }
         for tag in 0..self.operation.tags() {
