@@ -1,6 +1,6 @@
 //! The fixed list: small cases with the expected outcomes, one a line, for the
 //! program that replays them, and a few wrong lines at the end. Only rules and
-//! reference make it; the library is not asked.
+//! reference make it; the library is not asked. strictlist.rs has the strict check.
 
 use std::collections::BTreeSet;
 
@@ -25,13 +25,13 @@ const MAX: u64 = u64::MAX;
 
 /// A case has at most so many rows, a line so many characters.
 #[derive(Clone, Copy)]
-struct Limits {
+pub struct Limits {
     rows: usize,
     line: usize,
 }
 
-const SHORT: Limits = Limits { rows: 8, line: 400 };
-const LONG: Limits = Limits {
+pub const SHORT: Limits = Limits { rows: 8, line: 400 };
+pub const LONG: Limits = Limits {
     rows: 24,
     line: 999,
 };
@@ -45,7 +45,7 @@ const CHOICE: usize = 20;
 
 /// Every line has fewer words, and the list fewer bytes, than this.
 const WORDS: usize = 1_000;
-const BYTES: usize = 250_000;
+const BYTES: usize = 380_000;
 
 /// The numbers of the operations on books.
 const VERDICT: u64 = 6;
@@ -82,7 +82,7 @@ const WANTED_CHECK: usize = 10;
 const WANTED_APART: usize = 2;
 
 #[derive(Default)]
-struct List {
+pub struct List {
     lines: Vec<String>,
     /// The cases of Check, each with its answer.
     checks: Vec<(Lists, Answer)>,
@@ -127,6 +127,7 @@ pub fn list(seed: u64) -> bool {
     good &= showing_features(&mut random, &mut list);
     good &= showing_edges(&mut random, &mut list);
     good &= list.add_books(&mut random);
+    good &= list.add_strict(&mut random);
     good &= list.add_wrong();
     list.lines.iter().for_each(|line| println!("{line}"));
     list.complete() && good
@@ -158,13 +159,13 @@ fn edges() -> [Lists; 2] {
 }
 
 /// So many random cases that answer this number and pass a test.
-fn some(
+pub fn some(
     random: &mut Random,
     operation: &dyn Operation,
     number: u64,
     count: usize,
     list: &mut List,
-    test: fn(&Lists) -> bool,
+    test: impl Fn(&Lists) -> bool,
 ) {
     let mut left = count;
     while left > 0 {
@@ -176,7 +177,7 @@ fn some(
     }
 }
 
-fn any(_lists: &Lists) -> bool {
+pub fn any(_lists: &Lists) -> bool {
     true
 }
 
@@ -246,7 +247,7 @@ impl List {
     }
 
     /// Adds a case, unless it is too long or there already.
-    fn add(&mut self, operation: &dyn Operation, mut lists: Lists, limits: Limits) -> bool {
+    pub fn add(&mut self, operation: &dyn Operation, mut lists: Lists, limits: Limits) -> bool {
         shorten(operation, &mut lists);
         let outcome = operation.expected(&lists);
         let line = line(operation, &lists, &outcome);
@@ -270,7 +271,8 @@ impl List {
             self.checks.push((lists.clone(), outcome.answer));
             return;
         }
-        if let (Kind::Rows(row), false) = (operation.lists()[0].1, refused) {
+        let tags = operation.tags() > 0 && !refused;
+        if let (Kind::Rows(row), true) = (operation.lists()[0].1, tags) {
             for row in lists[0].chunks(row) {
                 self.taken.insert((operation.number(), row[0]));
             }
@@ -307,7 +309,7 @@ impl List {
     }
 
     /// Adds a line, unless it is there already.
-    fn add_line(&mut self, line: String) {
+    pub fn add_line(&mut self, line: String) {
         if !self.lines.contains(&line) {
             self.lines.push(line);
         }

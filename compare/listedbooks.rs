@@ -84,7 +84,7 @@ fn small() -> Lists {
 }
 
 /// Inputs that are no books: too short; a bad section; bytes left over.
-fn misshapen() -> Vec<Vec<u8>> {
+pub fn misshapen() -> Vec<Vec<u8>> {
     let whole = empty().bytes();
     let mut books = vec![vec![], vec![0], whole[..CONTENTS - 1].to_vec()];
     let starts = [177, 175, 184, 0, MAX, 176 + (1 << 32), 168];

@@ -74,6 +74,7 @@ mod spoil;
 mod statement;
 mod strict;
 mod strictcases;
+mod strictlist;
 mod tags;
 mod tally;
 mod tiny;

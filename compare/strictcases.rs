@@ -80,10 +80,16 @@ pub fn accepted() -> Vec<Lists> {
         .collect()
 }
 
-/// Small ones: accepted; a bad root of the source, then of the target; what stands
+/// Small ones: a bad root of the source, then of the target; accepted; what stands
 /// before 19 and what stands behind it.
 pub fn small() -> Vec<Case> {
-    let cases = [accepted_parts(), source_roots(), target_roots(), order()];
+    let cases = [
+        source_roots(),
+        target_roots(),
+        accepted_parts(),
+        single(),
+        order(),
+    ];
     let cases = cases.into_iter().flatten();
     cases.map(|(parts, answer)| (lend(parts), answer)).collect()
 }
@@ -191,6 +197,47 @@ fn target_roots() -> Vec<(Parts, Answer)> {
         (variables(&[1], &[0], &[0, 1]), answer(19, 1, 2)),
         (instead(3), answer(19, 1, 2)),
         (instead(8), answer(19, 1, 2)),
+    ]
+}
+
+/// The smallest ones beside other refusals: a map that is missing, a root left over, an
+/// entry of a table, a row above the ceiling, a byte above 1.
+fn single() -> Vec<(Parts, Answer)> {
+    let unmapped = |widths: &[u64], target_root: u64| Parts {
+        map: vec![],
+        ..variables(widths, &[0], &[target_root])
+    };
+    let past = || Parts {
+        source_roots: vec![0],
+        ..Parts::default()
+    };
+    vec![
+        (unmapped(&[1], 0), answer(3, 1, 0)),
+        (unmapped(&[8], 0), SOURCE_ROOT),
+        (unmapped(&[1, 8], 1), TARGET_ROOT),
+        (target(&[1], &[0]), answer(12, 0, 0)),
+        (
+            Parts {
+                reads: vec![[0; 3]],
+                ..past()
+            },
+            SOURCE_ROOT,
+        ),
+        (
+            Parts {
+                calls: vec![[0; 4]],
+                ..past()
+            },
+            SOURCE_ROOT,
+        ),
+        (target(&[CEILING + 1], &[0]), answer(2, 0, 0)),
+        (
+            Parts {
+                target_bits: vec![2],
+                ..past()
+            },
+            answer(17, 0, 2),
+        ),
     ]
 }
 

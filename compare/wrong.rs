@@ -18,12 +18,12 @@ enum Part {
 const CHANGES: [(u64, Part, u64); 10] = [
     (3, Part::Answer(0), 1),
     (6, Part::Answer(1), 1),
-    (5, Part::Answer(2), 1),
+    (8, Part::Answer(2), 3),
     (1, Part::Lent(0), 1),
     (4, Part::Lent(1), 1),
-    (5, Part::Lent(1), 1),
+    (9, Part::Answer(0), 19),
     (5, Part::Lent(2), 1),
-    (5, Part::Lent(3), 1),
+    (8, Part::Lent(3), 1),
     (7, Part::Lent(0), 0x80),
     (2, Part::Text, 0),
 ];
