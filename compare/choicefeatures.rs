@@ -15,6 +15,9 @@ pub struct Tried<'t> {
     pub target: Searched,
     /// The target by all its assignments.
     pub plainly: Found,
+    /// The same three with roots that are true at one bit alone, where the strict check
+    /// accepts.
+    pub strictly: Option<[Found; 3]>,
     /// The target is closed, but without the congruence roots of reads, or without
     /// those of calls, it is not.
     pub but_for: [bool; 2],
@@ -24,10 +27,15 @@ impl Tried<'_> {
     pub fn is(&self, found: Found) -> bool {
         self.source.found == found && self.target.found == found
     }
+
+    fn is_strictly(&self, found: Found) -> bool {
+        let both = self.strictly.map(|[source, target, _]| [source, target]);
+        both == Some([found; 2])
+    }
 }
 
 /// Of lowerings.
-pub const LOWERINGS: [(&str, fn(&Lowering) -> bool); 16] = [
+pub const LOWERINGS: [(&str, fn(&Lowering) -> bool); 18] = [
     ("no source root", |of| of.roots.is_empty()),
     ("no root in either graph", |of| {
         of.lists[at::TARGET_ROOTS].is_empty()
@@ -41,6 +49,13 @@ pub const LOWERINGS: [(&str, fn(&Lowering) -> bool); 16] = [
     ("a root of more than one bit", |of| {
         let widths = &of.source.shape.widths;
         of.roots.iter().any(|&root| widths[root] > 1)
+    }),
+    ("roots, accepted by the strict check", |of| {
+        of.strict && !of.roots.is_empty()
+    }),
+    ("the same with congruence roots", |of| {
+        let leads = of.roots.len();
+        of.strict && leads > 0 && of.lists[at::TARGET_ROOTS].len() > leads
     }),
     ("an unmapped variable", |of| !of.unmapped.is_empty()),
     ("an unmapped variable that a row names", |of| {
@@ -98,7 +113,7 @@ fn is_nested(of: &Lowering, row: usize, tag: u64) -> bool {
 }
 
 /// Of triples.
-pub const TRIPLES: [(&str, fn(&Tried) -> bool); 15] = [
+pub const TRIPLES: [(&str, fn(&Tried) -> bool); 20] = [
     ("open on both sides", |of| of.is(Found::Open)),
     ("open, after values were taken back", |of| {
         of.is(Found::Open) && of.source.back && of.target.back
@@ -143,6 +158,21 @@ pub const TRIPLES: [(&str, fn(&Tried) -> bool); 15] = [
             arguments(lists, p, q).all(alike) && of.target.unlike(p[0], q[0])
         };
         of.is(Found::Open) && pairs.any(apart)
+    }),
+    ("with strict roots, open on both sides", |of| {
+        of.is_strictly(Found::Open)
+    }),
+    ("with strict roots, open on neither side", |of| {
+        of.is_strictly(Found::Closed)
+    }),
+    ("with strict roots, open, by all assignments too", |of| {
+        of.strictly.is_some_and(|found| found[2] == Found::Open)
+    }),
+    ("with strict roots, closed, by all assignments too", |of| {
+        of.strictly.is_some_and(|found| found[2] == Found::Closed)
+    }),
+    ("with strict roots, closed by congruence alone", |of| {
+        of.is_strictly(Found::Closed) && of.but_for.contains(&true)
     }),
     ("closed by congruence of reads alone", |of| of.but_for[0]),
     ("closed by congruence of calls alone", |of| of.but_for[1]),

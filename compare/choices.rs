@@ -1,6 +1,7 @@
 //! The statement that source and target leave the same choices, tried on the marked
 //! lowerings and on small random ones, each with several triples of values: u on the
-//! mapped source variables, p on the unmapped ones, q on the target's of class 0.
+//! mapped source variables, p on the unmapped ones, q on the target's of class 0. Where
+//! the strict check accepts, also with roots that are true at one bit alone.
 
 use crate::check::CHECK;
 use crate::choicecases;
@@ -97,6 +98,11 @@ fn judge(
         return true;
     }
     let lowering = Lowering::new(after);
+    if lowering.strict != lowering.one_bit_roots() {
+        println!("DISAGREEMENT in {which}: the strict check must accept roots of one bit alone");
+        print!("{}", show::input(&CHECK, lists));
+        return false;
+    }
     counts.lowering(&lowering);
     let mut judge = Judge::new(counts, &lowering, which);
     (0..draws).all(|_| judge.twice(random)) && judge.scan(random)
@@ -107,6 +113,8 @@ struct Judge<'j> {
     counts: &'j mut Counts,
     lowering: &'j Lowering,
     right: Stated<'j>,
+    /// Where the strict check accepts.
+    strict: Option<Stated<'j>>,
     /// Without the congruence roots of reads, and without those of calls.
     fewer: [Stated<'j>; 2],
     which: &'j str,
@@ -119,16 +127,23 @@ impl<'j> Judge<'j> {
             counts,
             lowering,
             right: Stated::new(lowering, Statement::Right),
+            strict: (lowering.strict).then(|| Stated::new(lowering, Statement::Strict)),
             fewer: fewer.map(|statement| Stated::new(lowering, statement)),
             which,
         }
     }
 
-    /// What both searches find, and the target's by all assignments.
-    fn found(&mut self, given: &Given) -> [Found; 3] {
+    /// What both searches find, and the target's by all assignments; then the three again
+    /// with roots that are true at one bit alone, where the strict check accepts.
+    fn found(&mut self, given: &Given) -> [Found; 6] {
         let [source, target] = [self.right.source(given), self.right.target(given)];
         let plainly = self.right.target_plainly(given);
-        let found = [source.found, target.found, plainly];
+        let strictly = self.strict.as_ref().map(|strict| {
+            let [source, target] = [strict.source(given), strict.target(given)];
+            [source.found, target.found, strict.target_plainly(given)]
+        });
+        let [a, b, c] = strictly.unwrap_or([Found::TooBig; 3]);
+        let found = [source.found, target.found, plainly, a, b, c];
         let searched = found[1] == Found::Closed && target.back;
         let but_for = |fewer: &Stated| searched && fewer.target(given).found == Found::Open;
         let tried = Tried {
@@ -137,6 +152,7 @@ impl<'j> Judge<'j> {
             source,
             target,
             plainly,
+            strictly,
         };
         self.counts.triple(&tried);
         found
@@ -190,11 +206,12 @@ impl<'j> Judge<'j> {
     }
 
     /// Prints a disagreement. Always false.
-    fn report(&self, tried: &[([Found; 3], Given)]) -> bool {
+    fn report(&self, tried: &[([Found; 6], Given)]) -> bool {
         println!("DISAGREEMENT, found in {}:", self.which);
         print!("{}", show::input(&CHECK, &self.lowering.lists));
-        for ([source, target, plainly], given) in tried {
-            println!("source {source:?}, target {target:?}, by all assignments {plainly:?}, with");
+        for ([source, target, plainly, strict @ ..], given) in tried {
+            println!("source {source:?}, target {target:?}, by all assignments {plainly:?},");
+            println!("with strict roots {strict:?}, with");
             for &[row, image] in &self.lowering.mapped {
                 let value = given.source[row];
                 println!("  u at source row {row}, image {image}: {value}");

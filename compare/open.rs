@@ -130,7 +130,7 @@ impl Search<'_> {
         }
         let row = self.plan.order[place];
         self.values[row] = value;
-        if self.plan.is_root[row] && !(self.plan.is_true)(value) {
+        if self.plan.is_root[row] && !(self.plan.is_true)(self.plan.widths[row], value) {
             return Some(false);
         }
         self.from(place + 1)

@@ -1,7 +1,7 @@
 //! An accepted lowering as statement.rs sees it: two graphs, and three kinds of
 //! variables whose values are given.
 
-use crate::check::{at, CHECK};
+use crate::check::{at, CHECK, STRICT_CHECK};
 use crate::openrows::Graph;
 use crate::operation::{Lists, Operation};
 use crate::reference::sizes;
@@ -26,6 +26,8 @@ pub struct Lowering {
     pub unmapped: Vec<usize>,
     /// Target variables of class 0.
     pub idle: Vec<usize>,
+    /// Does the library's strict check accept it too?
+    pub strict: bool,
 }
 
 /// By row: u and p on the source's variables; on the target's q, which counts at
@@ -87,10 +89,22 @@ impl Lowering {
             mapped: mapped(&lists).collect(),
             unmapped: source.variables().filter(unmapped).collect(),
             idle: target.variables().filter(|&row| class(row) == 0).collect(),
+            strict: STRICT_CHECK.ours(&lists).answer == ACCEPTED,
             source,
             target,
             lists,
         }
+    }
+
+    /// Has every root of both graphs one bit?
+    pub fn one_bit_roots(&self) -> bool {
+        let one_bit = |list: usize, lent: usize| {
+            let widths = &self.lists[lent];
+            self.lists[list]
+                .iter()
+                .all(|&root| widths[root as usize] == 1)
+        };
+        one_bit(at::SOURCE_ROOTS, at::LENT) && one_bit(at::TARGET_ROOTS, at::LENT + 1)
     }
 
     /// The class of a target row.

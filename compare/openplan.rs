@@ -14,9 +14,11 @@ pub struct Plan {
     pub order: Vec<usize>,
     pub is_root: Vec<bool>,
     pub widths: Vec<usize>,
-    /// When a root is true.
-    pub is_true: fn(u64) -> bool,
+    pub is_true: Truth,
 }
+
+/// Whether a root of this width and value is true.
+pub type Truth = fn(usize, u64) -> bool;
 
 impl Shape {
     /// Does a row name this one?
@@ -54,7 +56,7 @@ impl Shape {
 
     /// First the rows that no choice can change, then root by root, always one that
     /// adds the fewest bits to choose.
-    pub fn plan(&self, roots: &[usize], is_true: fn(u64) -> bool) -> Plan {
+    pub fn plan(&self, roots: &[usize], is_true: Truth) -> Plan {
         let rows = 0..self.operands.len();
         let (needed, open) = (self.reach(roots), self.open());
         let settled = |row: &usize| needed[*row] && !open[*row];

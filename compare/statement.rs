@@ -8,7 +8,7 @@ use crate::features;
 use crate::open::{Found, Searched};
 use crate::openlowering::{Given, Lowering};
 use crate::openmemory::Interpretation;
-use crate::openplan::Plan;
+use crate::openplan::{Plan, Truth};
 use crate::openrows::Assignment;
 use crate::operation::Lists;
 use crate::plain::ones;
@@ -30,10 +30,13 @@ pub enum Statement {
     OldestFirst,
     CallsFixed,
     NotZero,
+    /// Right where the strict check accepts.
+    Strict,
+    StrictSource,
 }
 
 /// The wrong statements, each with what is wrong about it.
-pub const WRONG: [(Statement, &str); 13] = [
+pub const WRONG: [(Statement, &str); 14] = [
     (Statement::Exchanged, "two images with each other's values"),
     (Statement::RootLeftOut, "the last congruence root left out"),
     (Statement::NoReadRoots, "no congruence roots of reads"),
@@ -56,6 +59,10 @@ pub const WRONG: [(Statement, &str); 13] = [
         "variables of calls that are not free",
     ),
     (Statement::NotZero, "target roots true when they are not 0"),
+    (
+        Statement::StrictSource,
+        "source roots true at one bit alone, target roots at any width",
+    ),
 ];
 
 impl Statement {
@@ -73,17 +80,24 @@ impl Statement {
         roots
     }
 
-    /// When a target root is true.
-    fn is_true(self) -> fn(u64) -> bool {
+    /// When a root is true, of the source and of the target.
+    fn is_true(self) -> [Truth; 2] {
         match self {
-            Statement::NotZero => |value| value != 0,
-            _ => is_one,
+            Statement::NotZero => [is_one, |_, value| value != 0],
+            Statement::Strict => [is_one_bit; 2],
+            Statement::StrictSource => [is_one_bit, is_one],
+            _ => [is_one; 2],
         }
     }
 }
 
-fn is_one(value: u64) -> bool {
+fn is_one(_width: usize, value: u64) -> bool {
     value == 1
+}
+
+/// As the strict check has it.
+fn is_one_bit(width: usize, value: u64) -> bool {
+    width == 1 && value == 1
 }
 
 /// Assignments are all tried one by one where they differ in so many bits at most.
@@ -101,11 +115,12 @@ impl<'l> Stated<'l> {
     pub fn new(lowering: &'l Lowering, statement: Statement) -> Stated<'l> {
         let [source, target] = [&lowering.source.shape, &lowering.target.shape];
         let roots = statement.target_roots(&lowering.lists);
+        let is_true = statement.is_true();
         Stated {
             lowering,
             statement,
-            source: source.plan(&lowering.roots, is_one),
-            target: target.plan(&roots, statement.is_true()),
+            source: source.plan(&lowering.roots, is_true[0]),
+            target: target.plan(&roots, is_true[1]),
         }
     }
 
@@ -140,8 +155,10 @@ impl<'l> Stated<'l> {
                 word >>= graph.shape.widths[row];
             }
             let values = graph.values(&values);
+            let is_true =
+                |root: usize| (self.target.is_true)(graph.shape.widths[root], values[root]);
             let roots = &self.lowering.lists[at::TARGET_ROOTS];
-            roots.iter().all(|&root| values[root as usize] == 1)
+            roots.iter().all(|&root| is_true(root as usize))
         });
         if open {
             Found::Open
