@@ -5,6 +5,7 @@ use crate::check::at;
 use crate::graphs::{Builder, Style};
 use crate::operation::Lists;
 use crate::random::Random;
+use crate::reference;
 use crate::rules::{SOURCE, TARGET};
 use crate::tags::*;
 
@@ -89,6 +90,16 @@ pub fn unmapped(mut lists: Lists) -> Lists {
 pub fn rooted(mut lists: Lists) -> Lists {
     lists[at::SOURCE_ROOTS] = (0..lists[at::MAP].len() as u64).collect();
     lists[at::TARGET_ROOTS] = lists[at::MAP].clone();
+    lists
+}
+
+/// The lowering of core rows with its first rows of one bit as roots, so many.
+pub fn one_bit_rooted(mut lists: Lists, count: usize) -> Lists {
+    let [widths, _] = reference::check_widths(&lists);
+    let rows = (0..).zip(widths).filter(|&(_, width)| width == 1);
+    let roots: Vec<u64> = rows.map(|(row, _)| row).take(count).collect();
+    lists[at::TARGET_ROOTS] = roots.clone();
+    lists[at::SOURCE_ROOTS] = roots;
     lists
 }
 

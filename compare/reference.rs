@@ -200,6 +200,20 @@ impl Sliver {
             &self.words[at::TARGET_ROOTS],
         )
     }
+
+    /// Does `roots_wf` take both root lists, over the widths of the graphs?
+    pub fn roots(&self, widths: &[Vec<usize>; 2]) -> bool {
+        let lists = [at::SOURCE_ROOTS, at::TARGET_ROOTS];
+        (widths.iter().zip(lists)).all(|(widths, list)| roots_wf(widths, &self.words[list]).is_ok())
+    }
+
+    /// The widths of both graphs, if they are well formed.
+    pub fn widths(&self) -> Option<[Vec<usize>; 2]> {
+        let side = &self.words[at::SIDE];
+        let source = ext_wf(&self.source, self.source_bits.len(), side).ok()?;
+        let target = dag_wf(&self.target, self.target_bits.len()).ok()?;
+        Some([source, target])
+    }
 }
 
 /// What `check_sliver_lowering` answers, as the scope's number, place and
