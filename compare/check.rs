@@ -136,14 +136,14 @@ impl Operation for Check {
     }
 
     fn changed(&self) -> Vec<Lists> {
-        let accepted = match self.strict {
-            false => marked::accepted(),
-            true => strictcases::accepted(),
+        let (accepted, tiny) = match self.strict {
+            false => (marked::accepted(), Vec::new()),
+            true => (strictcases::accepted(), strictcases::tiny()),
         };
         let told_apart = functioncases::to_change();
-        (accepted.into_iter())
-            .chain(told_apart)
+        (accepted.into_iter().chain(told_apart))
             .flat_map(|lists| changes::each(&lists))
+            .chain(tiny)
             .collect()
     }
 

@@ -76,7 +76,7 @@ pub trait Operation: Sync {
     fn known(&self) -> Vec<(Lists, Answer)> {
         Vec::new()
     }
-    /// Every case that one change makes of an accepted one of these.
+    /// Every case that one change makes of an accepted one of these, and tiny ones.
     fn changed(&self) -> Vec<Lists> {
         Vec::new()
     }

@@ -106,6 +106,32 @@ fn variables(widths: &[u64], source_roots: &[u64], target_roots: &[u64]) -> Part
     }
 }
 
+/// A variable of one bit and one of two, with each list of up to two roots over their rows
+/// and words that are no rows, in both graphs, with and without a map.
+pub fn tiny() -> Vec<Lists> {
+    let mut lists = vec![vec![]];
+    let words = [0, 1, 2, MAX];
+    lists.extend(words.map(|root| vec![root]));
+    lists.extend(
+        words
+            .iter()
+            .flat_map(|&one| words.map(|other| vec![one, other])),
+    );
+    let pairs = lists
+        .iter()
+        .flat_map(|one| lists.iter().map(move |other| [one, other]));
+    let with_roots = |[source, target]: [&Vec<u64>; 2]| {
+        let mapped = variables(&[1, 2], source, target);
+        let map = vec![];
+        let unmapped = Parts {
+            map,
+            ..variables(&[1, 2], source, target)
+        };
+        [mapped, unmapped].map(lend)
+    };
+    pairs.flat_map(with_roots).collect()
+}
+
 /// A target of variables alone.
 fn target(widths: &[u64], roots: &[u64]) -> Parts {
     Parts {

@@ -1,6 +1,6 @@
 //! What a run has met so far: answers, tags, features, edge words, rows at the
-//! ceiling, functions told apart, roots of another width. It prints the counts and says whether anything that
-//! must come is missing.
+//! ceiling, functions told apart, roots of another width. It prints the counts and says
+//! whether anything that must come is missing.
 
 use crate::ceilingcounts::CeilingCounts;
 use crate::check::{CHECK, STRICT_CHECK};
