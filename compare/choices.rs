@@ -210,8 +210,10 @@ impl<'j> Judge<'j> {
         println!("DISAGREEMENT, found in {}:", self.which);
         print!("{}", show::input(&CHECK, &self.lowering.lists));
         for ([source, target, plainly, strict @ ..], given) in tried {
-            println!("source {source:?}, target {target:?}, by all assignments {plainly:?},");
-            println!("with strict roots {strict:?}, with");
+            if self.strict.is_some() {
+                println!("with strict roots the next three are {strict:?}");
+            }
+            println!("source {source:?}, target {target:?}, by all assignments {plainly:?}, with");
             for &[row, image] in &self.lowering.mapped {
                 let value = given.source[row];
                 println!("  u at source row {row}, image {image}: {value}");

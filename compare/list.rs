@@ -30,7 +30,7 @@ pub struct Limits {
     line: usize,
 }
 
-pub const SHORT: Limits = Limits { rows: 8, line: 400 };
+const SHORT: Limits = Limits { rows: 8, line: 400 };
 pub const LONG: Limits = Limits {
     rows: 24,
     line: 999,

@@ -66,7 +66,7 @@ extern "C" {
     fn gilfrunt_section(book: *const u8, book_len: usize, number: u64) -> Stretch;
 }
 
-/// Functions of these names over the same lists.
+/// Verdicts on a book, all over the same lists.
 macro_rules! judges {
     ($($name:ident)*) => {
         extern "C" {$(
@@ -88,7 +88,7 @@ macro_rules! judges {
     };
 }
 
-/// Functions of these names over the same lists.
+/// Checks, all over the same lists.
 macro_rules! checks {
     ($($name:ident)*) => {
         extern "C" {$(

@@ -53,12 +53,13 @@ impl Refused<'_> {
         self.answer.detail == graph as u64 + 1
     }
 
-    /// Is it refused for a later root of this graph, behind it a good one or none?
+    /// Is it refused for a root of this graph behind another one, its last or not?
     fn is_later(&self, graph: usize, last: bool) -> bool {
         let place = self.answer.place as usize;
         self.of_graph(graph) && place > 0 && (place + 1 == self.roots(graph).len()) == last
     }
 
+    /// How many roots of this graph are no rows of one bit?
     fn bad(&self, graph: usize) -> usize {
         let roots = self.roots(graph).iter();
         roots
@@ -70,6 +71,7 @@ impl Refused<'_> {
 /// A name, and whether a refused case shows what it names.
 pub type Cause = (&'static str, fn(&Refused) -> bool);
 
+/// Each must come.
 pub const CAUSES: [Cause; 17] = [
     ("a source root of another width", |of| of.is(0, true)),
     ("a source root past the rows", |of| of.is(0, false)),
