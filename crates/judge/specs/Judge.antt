@@ -13,8 +13,8 @@ use Rattle.loaded.specs.Held.{held, bookWords}
 use Rattle.lowering.specs.Lowering.{sourceRows, targetRows}
 use Rattle.lowering.specs.Check.{widthsOfSource, widthsOfTarget, classes, offsets, refuse, firstRefusal, countAnswers, checkAnswerBy}
 
--- 20; then as Check, or the strict check, on the book's lists, with room for some words in its four lists. A fifth list takes the book's words: "one too short is 18 by its
--- place in the order lent", with Check's own 15 and 18 before it
+-- 20; then as Check, or the strict check, on the book's lists, with room for some words in its four lists. A fifth list takes the book's words: "one
+-- too short is 18 by its place in the order lent", with Check's own 15 and 18 before it
 abbrev pub judgeAnswerBy : Bool → List ℕ → ℕ → ℕ → ℕ → ℕ → ℕ → Answer
 judgeAnswerBy strict b w0 w1 c e room =
     andThen (bookAnswer b)

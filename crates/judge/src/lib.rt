@@ -11,8 +11,8 @@ ghost use Rattle.loaded.specs.Held.{held};
 ghost use Rattle.judge.specs.Judge.{judgeBy, verdictBy};
 use answers::Answer;
 
-// A book's verdict: 20, or the check's answer on the lists that it holds; in the five lists the widths of both graphs, the classes, the entry offsets and
-// the book's words.
+// A book's verdict: 20, or the check's answer on the lists that it holds; in the five lists the widths of both graphs, the classes, the entry offsets
+// and the book's words.
 pub fn judge(
     strict: bool,
     book: &[u8],

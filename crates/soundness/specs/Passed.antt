@@ -1,4 +1,5 @@
--- What Check has passed, test by test: when it comes to a row, and when it accepts; and what the strict check has besides. Demand 3 rests on this alone.
+-- What Check has passed, test by test: when it comes to a row, and when it accepts; and what the strict check has besides. Demand 3 rests on this
+-- alone.
 -- Inner: the theorem's proof cites it; no answer's definition and no statement does. Assumes nothing.
 use Prim.Native.Nat.{ℕ, _+_, _<_, _≤_}
 use mathlib.Core.Path.{_≡_}
@@ -12,8 +13,8 @@ use Rattle.rules.specs.Rule.{hasWidth}
 use Rattle.lowering.specs.Tables.{readCount, callCount, readGood, callGood, readClasses, callClasses}
 use Rattle.lowering.specs.Roots.{pair, leads, rootAt, readRoot, callRoot}
 use Rattle.lowering.specs.Lowering.{Lowering, sourceRows, targetRows}
-use Rattle.lowering.specs.Check.{sourceIll, targetIll, widthsOfSource, widthsOfTarget, noClasses, classesOfReads, classes, answerOf, pairsOfReads, pairsOfCalls}
-use Rattle.lowering.specs.Check.{callRoots, rootsEnd}
+use Rattle.lowering.specs.Check.{sourceIll, targetIll, widthsOfSource, widthsOfTarget, noClasses, classesOfReads, classes, answerOf}
+use Rattle.lowering.specs.Check.{pairsOfReads, pairsOfCalls, callRoots, rootsEnd}
 
 -- when it comes to row n: both tables (5, 6), and the rows before it (4, 7 to 11)
 pub record Reached (L : Lowering) (n : ℕ) : Type 0 where
