@@ -8,14 +8,14 @@ use Rattle.lists.specs.Trace.{trace}
 use Rattle.lowering.specs.Roots.{leads, pairsWith, pairs}
 use Rattle.lowering.specs.Check.{firstRefusal}
 use Rattle.book.proofs.Cases.{entry, copies}
-use Rattle.judge.specs.Judge.{verdict}
+use Rattle.judge.specs.Judge.{verdict, strictVerdict}
 
--- "The book of eleven empty bodies, each start 176, prints `accepted`"
-empty-book : verdict (copies 11 (entry 176 0)) ≡ Accepted
+-- "The book of eleven empty bodies, each start 176, prints `accepted`", strictly too
+empty-book : (verdict (copies 11 (entry 176 0)) ≡ Accepted) × (strictVerdict (copies 11 (entry 176 0)) ≡ Accepted)
 unfolding first build trace firstRefusal leads pairsWith pairs copies
-empty-book = refl
+empty-book = (refl, refl)
 
 -- "Empty input prints `refused 20 0 0`"
-empty-input : verdict [] ≡ BookShape 0
+empty-input : (verdict [] ≡ BookShape 0) × (strictVerdict [] ≡ BookShape 0)
 unfolding first
-empty-input = refl
+empty-input = (refl, refl)

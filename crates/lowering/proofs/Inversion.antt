@@ -39,10 +39,6 @@ pub each-append : (xs ys : List Answer) → Each (xs ++ ys) → Each xs × Each 
 each-append [] ys e = (tt, e)
 each-append (a ∷ xs) ys (x, e) = let (p, q) = each-append xs ys e in ((x, p), q)
 
-pub each-join : (xs ys : List Answer) → Each xs → Each ys → Each (xs ++ ys)
-each-join [] ys e f = f
-each-join (a ∷ xs) ys (x, e) f = (x, each-join xs ys e f)
-
 -- a test with a refusal failed
 pub not-refused : (b : Bool) (a : Answer) → isAccepted a ≡ false → isAccepted (refuse b a) ≡ true → b ≡ false
 not-refused true a n e = no-way (sym e ∙ n)

@@ -1,5 +1,6 @@
 pub mod Cases
 pub mod Refusals
+pub mod Strict
 pub mod Inversion
 pub mod Images
 pub mod Marks

@@ -11,8 +11,8 @@ use Rattle.answers.specs.declared.Answer.{Answer}
 use Rattle.lowering.specs.Lowering.{Lowering, sourceRows}
 use Rattle.lowering.specs.Check.{sourceIll, targetIll, widthsOfSource, widthsOfTarget, answerOf}
 use Rattle.lowering.specs.Check.{countAnswers, graphAnswers, bitAnswers, formAnswers, matchAnswers}
-use Rattle.lowering.proofs.Inversion.{Each, each, each-append, each-join, none-refused, not-refused, all-fail, all-pass, first-refused}
-use Rattle.soundness.specs.Sound.{AcceptsBy, Accepts, StrictlyAccepts}
+use Rattle.lowering.proofs.Inversion.{Each, each, each-append, not-refused, all-fail, all-pass, first-refused}
+use Rattle.soundness.specs.Sound.{AcceptsBy, StrictlyAccepts}
 use Rattle.soundness.specs.Passed.{Passed, OneBit}
 
 module _ (strict : Bool) (L : Lowering) (ws0 ws1 cls ent : List ℕ) (accepts : AcceptsBy strict L ws0 ws1 cls ent) where
@@ -62,10 +62,6 @@ module _ (strict : Bool) (L : Lowering) (ws0 ws1 cls ent : List ℕ) (accepts : 
         call-roots = all-pass _ _ (not-refused _ _ refl croots);
         roots-end = eqb-true _ _ (not-false _ (not-refused _ _ refl surplus));
       }
-
-  -- strictly accepted is accepted
-  pub accepted-too : Accepts L ws0 ws1 cls ent
-  accepted-too = none-refused _ (each-join counts (graphs ++ matchAnswers L) (counts-pass .0) (each-join graphs (matchAnswers L) (graphs-pass .0) (forms-pass .1)))
 
 -- the roots of what is strictly accepted
 pub one-bit : (L : Lowering) (ws0 ws1 cls ent : List ℕ) → StrictlyAccepts L ws0 ws1 cls ent → OneBit L

@@ -3,7 +3,7 @@
 -- the assignment and the interpretation that are found) and of crates/lowering (Check: the operation's answer). docs/PROOF.md tells the argument.
 -- Assumes that the check accepts, whatever lists are lent, and that the target has no more words than a slice can have. Nothing else.
 use Prim.Native.Nat.{ℕ, _<_, _≤_}
-use mathlib.Core.Path.{_≡_, sym, _∙_}
+use mathlib.Core.Path.{_≡_, sym, ap, _∙_}
 use mathlib.Core.Bool.{Bool, true, false}
 use mathlib.Core.Logic.{_↔_}
 use mathlib.Core.List.{List, []}
@@ -11,6 +11,7 @@ use lib.ListN.{length, getD}
 use Rattle.lists.proofs.Choice.{no-way}
 use Rattle.answers.specs.declared.Answer.{Answer}
 use Rattle.answers.specs.Answer.{isAccepted, lent}
+use Rattle.answers.specs.Result.{Result}
 use Rattle.value.specs.Graph.{Assigns}
 use Rattle.meaning.specs.Meaning.{Interpretation, OfKind, isTrueBit, truth}
 use Rattle.rows.specs.declared.Graph.the-variants.{Source, Target}
@@ -21,13 +22,14 @@ use Rattle.wf.proofs.Promise.{are-widths}
 use Rattle.lowering.specs.Images.{mapAt}
 use Rattle.lowering.specs.Lowering.{Lowering, targetRows}
 use Rattle.lowering.specs.Check.{widthsOfSource, widthsOfTarget}
+use Rattle.lowering.proofs.Strict.{strict-leaves}
 use Rattle.soundness.specs.Sound.{AcceptsBy, Accepts, StrictlyAccepts, SoundBy, ImagesAgree, SourceTrue, SourceTrueBy, TargetTrue, TargetTrueBy}
 use Rattle.soundness.specs.Sound.{SourceIsSatisfiableBy, TargetIsSatisfiableBy}
 use Rattle.soundness.specs.Transfer.{assignment, interpretation}
 use Rattle.soundness.specs.Choices.{classesLeft, AgreesOnMapped, AgreesOnImages, AgreesOnUnmapped, AgreesOnClassZero}
 use Rattle.soundness.specs.Choices.{MappedVar, OpenInSourceBy, OpenInTargetBy, SameChoicesBy}
 use Rattle.soundness.specs.Passed.{Passed, OneBit}
-use Rattle.soundness.proofs.Passed.{passed, one-bit, accepted-too}
+use Rattle.soundness.proofs.Passed.{passed, one-bit}
 use Rattle.soundness.proofs.Formed.{formed}
 use Rattle.soundness.proofs.Truths.{source-truths, target-truths, source-plain, target-plain}
 use Rattle.soundness.proofs.Accepted.{zeros, zero-interpretation, zeros-fit, zero-fits, passed-forward, passed-backward}
@@ -37,7 +39,7 @@ use Rattle.soundness.proofs.Choices.{in-class-zero, class-zero-fits, cl
 -- What the strict check accepts, Check accepts; and there the two truths agree: every root is a row of one bit (02, 2.6)
 module _ (L : Lowering) (ws0 ws1 cls ent : List ℕ) (accepts : StrictlyAccepts L ws0 ws1 cls ent) where
   pub strictly-accepted : Accepts L ws0 ws1 cls ent
-  strictly-accepted = accepted-too true L ws0 ws1 cls ent accepts
+  strictly-accepted = ap (λ (o : Result). isAccepted (o .answer)) (sym (strict-leaves L ws0 ws1 cls ent accepts)) ∙ accepts
 
   pub truths-agree : ((I : Interpretation) → SourceTrueBy L isTrueBit I ↔ SourceTrue L I) × ((A : ℕ → ℕ) → TargetTrueBy L isTrueBit A ↔ TargetTrue L A)
   truths-agree =
