@@ -94,15 +94,13 @@ module _ (strict : Bool) (b ws0 ws1 cls ent words : List ℕ) where
           let k : keeps a ≡ true = rw e (room-keeps r) in
           settle a _ (rw g (refuses-one counts short checked r) ∙ sym e) (rw (n, k))
 
-      module _ (r : isAccepted room ≡ true) (lists : List (List ℕ)) (o : result a lists ≡ checkBy strict (held b) ws0 ws1 cls ent) where
-        is-checked : a ≡ checked
-        is-checked = ap (λ (z : Result). z .answer) o
-
+      module _ (r : isAccepted room ≡ true) (is-checked : a ≡ checked) (lists : List (List ℕ))
+          (o : lists ≡ checkBy strict (held b) ws0 ws1 cls ent .lists) where
         whole-checked : whole ≡ a
         whole-checked = let p = accepts-both counts short r in rw (g, p .0, p .1) (sym is-checked)
 
         left-checked : left a (four strict (held b) ws0 ws1 cls ent) ≡ lists
-        left-checked = ap (λ (z : Answer). left z (four strict (held b) ws0 ws1 cls ent)) is-checked ∙ sym (ap (λ (z : Result). z .lists) o)
+        left-checked = ap (λ (z : Answer). left z (four strict (held b) ws0 ws1 cls ent)) is-checked ∙ sym o
 
         -- the words stay where Check accepts, and are zeroed where it refuses
         pub check-done : (x : List ℕ)

@@ -1,6 +1,5 @@
 pub mod Cases
 pub mod Refusals
-pub mod Strict
 pub mod Inversion
 pub mod Images
 pub mod Marks

@@ -128,6 +128,11 @@ bitAnswers strict ws0 eroots ws1 troots =
     ∷ [])
     []
 
+-- two graphs with their roots: 19 stands "directly after target well-formedness" (02, 2.6)
+abbrev pub formAnswers : Bool → SourceGraph → TargetGraph → List ℕ → List ℕ → List Answer
+formAnswers strict S T eroots troots =
+    graphAnswers S T (sourceIll S) (targetIll T) ++ bitAnswers strict (sourceRowWidths S) eroots (targetRowWidths T) troots
+
 -- "12 RootMismatch; 13 CongruenceMismatch (position in the target root list, possibly its length); 12 for surplus roots."
 -- The place of 12 is the position of the first source root that has no image, differs or finds the list ended; roots left over have none
 abbrev pub rootAnswers : Entries → TargetGraph → List ℕ → List ℕ → List ℕ → List ℕ → List Answer
@@ -160,11 +165,6 @@ matchAnswers L =
     ++ (rowsRefusal L
     ∷ refuse (ltb (deadVariable L) (targetRows L)) (DeadEntry (deadVariable L))
     ∷ rootAnswers (entriesOf L) (L .target) (widthsOfTarget L) (L .map) (L .eroots) (L .troots))
-
--- two graphs with their roots: 19 stands "directly after target well-formedness" (02, 2.6)
-abbrev pub formAnswers : Bool → SourceGraph → TargetGraph → List ℕ → List ℕ → List Answer
-formAnswers strict S T eroots troots =
-    graphAnswers S T (sourceIll S) (targetIll T) ++ bitAnswers strict (sourceRowWidths S) eroots (targetRowWidths T) troots
 
 -- the answer, with room for some words in each of the four lists; `strict` says which of the two checks is asked
 abbrev pub checkAnswerBy : Bool → Lowering → ℕ → ℕ → ℕ → ℕ → Answer

@@ -1,3 +1,4 @@
+pub mod Strict
 pub mod Passed
 pub mod Facts
 pub mod Images

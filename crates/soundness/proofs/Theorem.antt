@@ -22,13 +22,13 @@ use Rattle.wf.proofs.Promise.{are-widths}
 use Rattle.lowering.specs.Images.{mapAt}
 use Rattle.lowering.specs.Lowering.{Lowering, targetRows}
 use Rattle.lowering.specs.Check.{widthsOfSource, widthsOfTarget}
-use Rattle.lowering.proofs.Strict.{strict-leaves}
 use Rattle.soundness.specs.Sound.{AcceptsBy, Accepts, StrictlyAccepts, SoundBy, ImagesAgree, SourceTrue, SourceTrueBy, TargetTrue, TargetTrueBy}
 use Rattle.soundness.specs.Sound.{SourceIsSatisfiableBy, TargetIsSatisfiableBy}
 use Rattle.soundness.specs.Transfer.{assignment, interpretation}
 use Rattle.soundness.specs.Choices.{classesLeft, AgreesOnMapped, AgreesOnImages, AgreesOnUnmapped, AgreesOnClassZero}
 use Rattle.soundness.specs.Choices.{MappedVar, OpenInSourceBy, OpenInTargetBy, SameChoicesBy}
 use Rattle.soundness.specs.Passed.{Passed, OneBit}
+use Rattle.soundness.proofs.Strict.{strict-leaves}
 use Rattle.soundness.proofs.Passed.{passed, one-bit}
 use Rattle.soundness.proofs.Formed.{formed}
 use Rattle.soundness.proofs.Truths.{source-truths, target-truths, source-plain, target-plain}

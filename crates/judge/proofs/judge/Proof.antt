@@ -2,10 +2,13 @@
 use lib.ListN.{length}
 use Rattle.contents.specs.Contents.{sections}
 use Rattle.bodies.proofs.Words.{filled-rest}
-use mathlib.Core.Path.{_≡_, sym, _∙_}
+use mathlib.Core.Path.{_≡_, sym, ap, _∙_}
 use mathlib.Core.Bool.{true}
 use Rattle.answers.specs.declared.Answer.{Answer}
 use Rattle.answers.specs.Answer.{isAccepted}
+use Rattle.answers.specs.Result.{Result}
+use Rattle.lowering.specs.Check.{checkAnswerBy}
+use Rattle.loaded.specs.Held.{held}
 use Rattle.book.specs.Good.{Good}
 use borrow.Author.Tests.{not-true, not-false}
 use Rattle.judge.proofs.Outcome.{room, shape-done, room-done, check-done, words-fit, words-left, by-lists}
@@ -126,6 +129,12 @@ same-length-9 c = search needs
 same-length-10 : tie.Need-same-length-10
 same-length-10 c = search needs
 
+-- the answer on the book's lists is that of the check that was asked for
+answer-is : (c : tie.After-check-loaded)
+    → (let s = entry (shaped (load-of c .before .before)) .args in
+    c .check-loaded .result ≡ checkAnswerBy (s .strict) (held (s .book .now)) (length (s .ws0 .now)) (length (s .ws1 .now)) (length (s .cls .now)) (length (s .ent .now)))
+answer-is c = ap (λ (o : Result). o .answer) (c .check-loaded .ensures)
+
 returns-3 : tie.Need-returns-3
 returns-3 c =
     let a = c .before .before .before in
@@ -133,7 +142,7 @@ returns-3 c =
     let l = load-of k in
     let e = l .before .before in
     let s = entry (shaped e) .args in
-    check-done (s .strict) (s .book .now) (s .ws0 .now) (s .ws1 .now) (s .cls .now) (s .ent .now) (s .words .now) _ (good (shaped e)) (roomy e) _ (k .check-loaded .ensures) _
+    check-done (s .strict) (s .book .now) (s .ws0 .now) (s .ws1 .now) (s .cls .now) (s .ent .now) (s .words .now) _ (good (shaped e)) (roomy e) (answer-is k) _ (ap (λ (o : Result). o .lists) (k .check-loaded .ensures)) _
     (words-left (s .book .now) _ _ _ _ (length (s .words .now)) (c .before .before .leave .ensures) (a .is-accepted3 .ensures) (l .load .kept .1 .0))
 
 pub judge-spec : {M : Type 1} → statement M
