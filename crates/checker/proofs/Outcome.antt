@@ -6,16 +6,14 @@ use mathlib.Core.List.{List, [], _∷_, _++_}
 use borrow.Author.Tests.{ltb-false}
 use lib.Dec.{ltb}
 use lib.ListN.{length, replicate, take, length-replicate}
-use lib.Seq.{take-at}
 use Rattle.answers.specs.declared.Answer.{Answer}
 use Rattle.answers.specs.declared.Answer.the-variants.{WorkShort}
 use Rattle.answers.specs.Answer.{isAccepted, keeps, andThen}
 use Rattle.answers.specs.Result.{Result, result, left, leaves}
-use Rattle.lists.proofs.Build.{build-length}
 use Rattle.rows.specs.declared.Graph.{Graph}
 use Rattle.rows.specs.declared.Graph.the-variants.{Source, Target}
 use Rattle.rows.specs.Row.{rowCount}
-use Rattle.wf.specs.Widths.{rowWidth, widths}
+use Rattle.wf.specs.Widths.{widths}
 use Rattle.wf.proofs.Promise.{well-formed}
 use Rattle.lowering.specs.Tables.{readCount, readVar, callCount, callVar, readOffsets}
 use Rattle.lowering.specs.Lowering.{Lowering, sourceRows, targetRows}

@@ -33,7 +33,12 @@ one-true w n e = eq-eqb n 1 e
 width-8 : (isTrue (val 8 3) ≡ false) × (isTrue (val 8 1) ≡ true) × (isTrue (val 8 0) ≡ false) × (isTrue (val 1 1) ≡ true)
 width-8 = (refl, refl, refl, refl)
 
--- "Under the strict check a root is true only as a one-bit row with value 1" (02, 2.6): at one bit the two truths agree
+-- "Under the strict check a root is true only as a one-bit row with value 1" (02, 2.6)
+bits-and-wider : (isTrueBit (val 1 1) ≡ true) × (isTrueBit (val 1 0) ≡ false) × (isTrueBit (val 8 1) ≡ false) × (isTrueBit (val 0 1) ≡ false)
+unfolding all
+bits-and-wider = (refl, refl, refl, refl)
+
+-- at one bit the two truths agree
 pub one-bit-truth : (v : Val) → wid v ≡ 1 → isTrueBit v ≡ isTrue v
 unfolding all
 one-bit-truth (val w n) e = rw (eq-eqb w 1 e) (same (eqb n 1))
@@ -41,10 +46,6 @@ one-bit-truth (val w n) e = rw (eq-eqb w 1 e) (same (eqb n 1))
     same : (b : Bool) → cond b true false ≡ b
     same true = refl
     same false = refl
-
-bits-and-wider : (isTrueBit (val 1 1) ≡ true) × (isTrueBit (val 1 0) ≡ false) × (isTrueBit (val 8 1) ≡ false) × (isTrueBit (val 0 1) ≡ false)
-unfolding all
-bits-and-wider = (refl, refl, refl, refl)
 
 -- a root that is not true
 not-true : (values : ℕ → Val) (roots : List ℕ) (k : ℕ) → k < length roots → isTrue (values (getD roots k 0)) ≡ false → RootsTrue values roots → ⊥

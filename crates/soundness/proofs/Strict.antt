@@ -24,28 +24,26 @@ module _ (L : Lowering) (w0 w1 c e : ℕ) where
   abbrev graphs : Answer
   graphs = firstRefusal (graphAnswers (L .source) (L .target) (sourceIll (L .source)) (targetIll (L .target)))
 
-  abbrev bits : Answer
-  bits = firstRefusal (bitAnswers true (widthsOfSource L) (L .eroots) (widthsOfTarget L) (L .troots))
+  abbrev bits : Bool → Answer
+  bits strict = firstRefusal (bitAnswers strict (widthsOfSource L) (L .eroots) (widthsOfTarget L) (L .troots))
 
   abbrev rest : Answer
   rest = firstRefusal (matchAnswers L)
 
-  -- the roots' widths are asked about between the graphs and the rest
-  pub plain-is : checkAnswer L w0 w1 c e ≡ andThen counts (andThen graphs rest)
-  plain-is =
-      refusal-append (countAnswers (L .source) (L .target) w0 w1 c e)
-      (graphAnswers (L .source) (L .target) (sourceIll (L .source)) (targetIll (L .target)) ++ matchAnswers L)
-      ∙ ap (andThen counts) (refusal-append (graphAnswers (L .source) (L .target) (sourceIll (L .source)) (targetIll (L .target))) (matchAnswers L))
-
-  pub strict-is : checkAnswerBy true L w0 w1 c e ≡ andThen counts (andThen graphs (andThen bits rest))
-  strict-is =
+  -- the roots' widths are asked about between the graphs and the rest, and by Check not at all
+  by-parts : (strict : Bool) → checkAnswerBy strict L w0 w1 c e ≡ andThen counts (andThen graphs (andThen (bits strict) rest))
+  by-parts strict =
       let gs = graphAnswers (L .source) (L .target) (sourceIll (L .source)) (targetIll (L .target)) in
-      let bs = bitAnswers true (widthsOfSource L) (L .eroots) (widthsOfTarget L) (L .troots) in
+      let bs = bitAnswers strict (widthsOfSource L) (L .eroots) (widthsOfTarget L) (L .troots) in
       refusal-append (countAnswers (L .source) (L .target) w0 w1 c e) (gs ++ (bs ++ matchAnswers L))
       ∙ ap (andThen counts) (refusal-append gs (bs ++ matchAnswers L) ∙ ap (andThen graphs) (refusal-append bs (matchAnswers L)))
 
+  not-asked : bits false ≡ Accepted
+  unfolding firstRefusal
+  not-asked = refl
+
   -- the roots' widths pass, or the number is 19
-  bits-or-19 : (isAccepted bits ≡ true) ⊎ (wordsOf bits .number ≡ 19)
+  bits-or-19 : (isAccepted (bits true) ≡ true) ⊎ (wordsOf (bits true) .number ≡ 19)
   unfolding firstRefusal
   bits-or-19 = go (ltb (badRoot (widthsOfSource L) (L .eroots)) (length (L .eroots))) (ltb (badRoot (widthsOfTarget L) (L .troots)) (length (L .troots)))
     where
@@ -60,16 +58,17 @@ module _ (L : Lowering) (w0 w1 c e : ℕ) where
 
   -- "It looks at source roots, then target roots, with 19 .. directly after target well-formedness" (02, 2.6), and at nothing else
   pub strict-or-19 : (checkAnswerBy true L w0 w1 c e ≡ checkAnswer L w0 w1 c e) ⊎ (wordsOf (checkAnswerBy true L w0 w1 c e) .number ≡ 19)
-  strict-or-19 = go (isAccepted counts) refl (isAccepted graphs) refl (isAccepted bits) refl bits-or-19
+  strict-or-19 = go (isAccepted counts) refl (isAccepted graphs) refl bits-or-19
     where
-      go : (x : Bool) → isAccepted counts ≡ x → (y : Bool) → isAccepted graphs ≡ y → (z : Bool) → isAccepted bits ≡ z
-          → (isAccepted bits ≡ true) ⊎ (wordsOf bits .number ≡ 19)
+      refused : wordsOf (bits true) .number ≡ 19 → isAccepted (bits true) ≡ false
+      refused number = ap (λ (n : ℕ). eqb n 0) number
+
+      go : (x : Bool) → isAccepted counts ≡ x → (y : Bool) → isAccepted graphs ≡ y → (isAccepted (bits true) ≡ true) ⊎ (wordsOf (bits true) .number ≡ 19)
           → (checkAnswerBy true L w0 w1 c e ≡ checkAnswer L w0 w1 c e) ⊎ (wordsOf (checkAnswerBy true L w0 w1 c e) .number ≡ 19)
-      go false p y q z r o = inl (rw (strict-is, plain-is, p))
-      go true p false q z r o = inl (rw (strict-is, plain-is, p, q))
-      go true p true q true r o = inl (rw (strict-is, plain-is, p, q, r))
-      go true p true q false r (inl o) = inl (rw (strict-is, plain-is, p, q, o))
-      go true p true q false r (inr o) = inr (rw (strict-is, p, q, r) o)
+      go false p y q o = inl (rw (by-parts true, by-parts false, p))
+      go true p false q o = inl (rw (by-parts true, by-parts false, p, q))
+      go true p true q (inl o) = inl (rw (by-parts true, by-parts false, not-asked, p, q, o))
+      go true p true q (inr o) = inr (rw (by-parts true, p, q, refused o) o)
 
 -- what the strict check accepts, Check accepts, and both leave the same lists
 pub strict-leaves : (L : Lowering) (ws0 ws1 cls ent : List ℕ) → isAccepted (strictCheck L ws0 ws1 cls ent .answer) ≡ true

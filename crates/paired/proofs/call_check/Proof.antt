@@ -1,7 +1,6 @@
 -- The lists that the library is lent are the case's, by the calls that took them; which of the two checks is called is the switch. Assumes nothing.
 use mathlib.Core.Path.{_≡_, sym}
 use mathlib.Core.Bool.{Bool, true, false}
-use borrow.Author.Tests.{not-true}
 use denote.Ref.{now}
 use Rattle.answers.specs.Result.{Told, toldOf}
 use Rattle.lowering.specs.Lowering.{Lowering, lowering}
