@@ -5,6 +5,8 @@ use mathlib.Core.Bool.{Bool, true, false, cond, not}
 use mathlib.Core.List.{List, [], _∷_}
 use lib.Dec.{eqb, ltb}
 use lib.ListN.{length}
+use Rattle.sorts.specs.Sorts.{Edition, sortsOf, sortAnswer}
+use Rattle.sorts.proofs.Sorts.{sort-zeroes}
 use Rattle.answers.specs.declared.Answer.{Answer}
 use Rattle.answers.specs.declared.Answer.the-variants.{Accepted, RowCount, WorkShort, BadRow, BadBit, Ext, Core, MapLength, ReadTable, CallTable, DeadEntry, RootMismatch, CongruenceMismatch, BadRoot, MapOutOfRange, VarClass, ConstMismatch, NodeMismatch, ChainMismatch, CallMismatch}
 use Rattle.answers.specs.Answer.{isAccepted, keeps}
@@ -19,8 +21,8 @@ use Rattle.lowering.specs.Tables.{readCount, callCount, badRead, badCall}
 use Rattle.lowering.specs.Roots.{Pair, badLead, badCong, readPairs, callPairs, readRoot, callRoot}
 use Rattle.lowering.specs.Matching.{Noted, noted, mappedArg, selectWalk, endGood, callMatches, varMatches, nodeMatches, matched}
 use Rattle.lowering.specs.Matching.{Kind, var, const, core, select, call, unknown, kindOf, kindAnswer, nodeAnswer, rowAnswer}
-use Rattle.lowering.specs.Lowering.{SourceGraph, TargetGraph, Lowering, Binding, bindingOf, entriesOf, sourceRows, targetRows}
-use Rattle.lowering.specs.Check.{widthsOfTarget, noClasses, classesOfReads, deadVariable, answerOf, mismatch, offsets, classes, refuse, firstRefusal, countAnswers, graphAnswers, rootAnswers, matchAnswers}
+use Rattle.lowering.specs.Lowering.{arraySorts, SourceGraph, TargetGraph, Lowering, Binding, bindingOf, entriesOf, sourceRows, targetRows}
+use Rattle.lowering.specs.Check.{widthsOfTarget, noClasses, classesOfReads, deadVariable, answerOf, mismatch, offsets, classes, refuse, firstRefusal, countAnswers, graphAnswers, formsOf, rootAnswers, matchAnswers}
 use Rattle.lowering.specs.Check.{sourceIll, targetIll, sourceRowWidths, targetRowWidths, bitAnswers, formAnswers}
 use Rattle.lowering.proofs.Refusals.{refusal-append}
 
@@ -66,8 +68,8 @@ keeps-count S T w0 w1 c e n = go (ragged Source (S .rows)) (ragged Target (T .ro
     go false false false false false false n = no-way n
 
 -- the others are not
-keeps-graphs : (S : SourceGraph) (T : TargetGraph) (x y : ℕ) → keeps (firstRefusal (graphAnswers S T x y)) ≡ false
-keeps-graphs S T x y = keeps-first (graphAnswers S T x y) (row0, (row1, (bit0, (bit1, (ill0, (ill1, tt))))))
+keeps-graphs : (E : Edition) (S : SourceGraph) (T : TargetGraph) (x y : ℕ) → keeps (firstRefusal (graphAnswers (sortAnswer E) S T x y)) ≡ false
+keeps-graphs E S T x y = keeps-first (graphAnswers (sortAnswer E) S T x y) (row0, (row1, (bit0, (bit1, (sort-zeroes E, (ill0, (ill1, tt)))))))
   where
     row0 : keeps (refuse (ltb (badRow Source (S .rows)) (rowCount Source (S .rows))) (BadRow (badRow Source (S .rows)) 1)) ≡ false
     row0 = keeps-refuse (ltb (badRow Source (S .rows)) (rowCount Source (S .rows))) (BadRow (badRow Source (S .rows)) 1) refl
@@ -97,16 +99,16 @@ keeps-bits true ws0 eroots ws1 troots = keeps-first (bitAnswers true ws0 eroots 
     target = keeps-refuse (ltb (badRoot ws1 troots) (length troots)) (BadRoot (badRoot ws1 troots) 2) refl
 keeps-bits false ws0 eroots ws1 troots = keeps-first [] tt
 
-pub keeps-forms : (strict : Bool) (S : SourceGraph) (T : TargetGraph) (eroots troots : List ℕ)
-    → keeps (firstRefusal (formAnswers strict S T eroots troots)) ≡ false
-keeps-forms strict S T eroots troots = go (isAccepted graphs) refl
+pub keeps-forms : (strict : Bool) (E : Edition) (S : SourceGraph) (T : TargetGraph) (eroots troots : List ℕ)
+    → keeps (firstRefusal (formAnswers strict E S T eroots troots)) ≡ false
+keeps-forms strict E S T eroots troots = go (isAccepted graphs) refl
   where
     graphs : Answer
-    graphs = firstRefusal (graphAnswers S T (sourceIll S) (targetIll T))
+    graphs = firstRefusal (formsOf E S T)
 
-    go : (b : Bool) → isAccepted graphs ≡ b → keeps (firstRefusal (formAnswers strict S T eroots troots)) ≡ false
-    go true e = rw (refusal-append (graphAnswers S T (sourceIll S) (targetIll T)) (bitAnswers strict (sourceRowWidths S) eroots (targetRowWidths T) troots), e) (keeps-bits strict (sourceRowWidths S) eroots (targetRowWidths T) troots)
-    go false e = rw (refusal-append (graphAnswers S T (sourceIll S) (targetIll T)) (bitAnswers strict (sourceRowWidths S) eroots (targetRowWidths T) troots), e) (keeps-graphs S T (sourceIll S) (targetIll T))
+    go : (b : Bool) → isAccepted graphs ≡ b → keeps (firstRefusal (formAnswers strict E S T eroots troots)) ≡ false
+    go true e = rw (refusal-append (formsOf E S T) (bitAnswers strict (sourceRowWidths (sortsOf E) S) eroots (targetRowWidths T) troots), e) (keeps-bits strict (sourceRowWidths (sortsOf E) S) eroots (targetRowWidths T) troots)
+    go false e = rw (refusal-append (formsOf E S T) (bitAnswers strict (sourceRowWidths (sortsOf E) S) eroots (targetRowWidths T) troots), e) (keeps-graphs E S T (sourceIll (sortsOf E) S) (targetIll T))
 
 keeps-kind : (B : Binding) (N : Noted) (i r : ℕ) (k : Kind) → keeps (kindAnswer B N i r k) ≡ false
 keeps-kind B N i r (var w) = keeps-matched (varMatches (B .target .rows) (N .classes) w r) (VarClass i) refl
@@ -132,7 +134,7 @@ keeps-row L i = go (eqb (mapAt (L .map) i) MAX) (ltb (mapAt (L .map) i) (rowCoun
 
 module _ (L : Lowering) where
   abbrev r : ℕ
-  r = badRead (L .reads) (L .target .rows) (widthsOfTarget L) (noClasses L)
+  r = badRead (arraySorts L) (L .reads) (L .target .rows) (widthsOfTarget L) (noClasses L)
 
   abbrev c : ℕ
   c = badCall (L .calls) (L .cargs) (L .target .rows) (widthsOfTarget L) (classesOfReads L)

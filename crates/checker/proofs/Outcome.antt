@@ -6,6 +6,8 @@ use mathlib.Core.List.{List, [], _∷_, _++_}
 use borrow.Author.Tests.{ltb-false}
 use lib.Dec.{ltb}
 use lib.ListN.{length, replicate, take, length-replicate}
+use Rattle.sorts.specs.Sorts.{Sorts, plain, sortAnswer}
+use Rattle.sorts.specs.Good.{Good}
 use Rattle.answers.specs.declared.Answer.{Answer}
 use Rattle.answers.specs.declared.Answer.the-variants.{WorkShort}
 use Rattle.answers.specs.Answer.{isAccepted, keeps, andThen}
@@ -16,27 +18,27 @@ use Rattle.rows.specs.Row.{rowCount}
 use Rattle.wf.specs.Widths.{widths}
 use Rattle.wf.proofs.Promise.{well-formed}
 use Rattle.lowering.specs.Tables.{readCount, readVar, callCount, callVar, readOffsets}
-use Rattle.lowering.specs.Lowering.{Lowering, sourceRows, targetRows}
-use Rattle.lowering.specs.Check.{widthsOfSource, widthsOfTarget, sourceIll, targetIll, noClasses, classesOfReads, classes, offsets, refuse, firstRefusal, countAnswers, graphAnswers, bitAnswers, formAnswers, matchAnswers, checkAnswerBy, checkBy}
+use Rattle.lowering.specs.Lowering.{arraySorts, Lowering, sourceRows, targetRows}
+use Rattle.lowering.specs.Check.{widthsOfSource, widthsOfTarget, sourceIll, targetIll, noClasses, classesOfReads, classes, offsets, refuse, firstRefusal, countAnswers, formsOf, bitAnswers, formAnswers, matchAnswers, checkAnswerBy, checkBy}
 use Rattle.lowering.proofs.Classes.{classes-keep-length}
 use Rattle.lowering.proofs.Inversion.{Each, each, each-append, none-refused, not-refused}
 use Rattle.lowering.proofs.Marks.{marks-length}
 use Rattle.lowering.proofs.Refusals.{refusal-append}
 use Rattle.matching.specs.Ready.{Formed}
-use Rattle.forms.proofs.Form.{width-count, widths-front, no-stop-source, no-stop-target}
+use Rattle.forms.proofs.Form.{width-count, widths-front, table-good, no-stop-source, no-stop-target}
 use Rattle.checker.proofs.Keeps.{keeps-count, keeps-forms, keeps-match}
 
 -- cleared after the last row
-pub widths-cleared : (graph : Graph) (nbits n k : ℕ) (side g ws rest after : List ℕ) → n ≡ rowCount graph g → ws ≡ widths graph nbits side g ++ rest → length ws ≡ k
-    → after ≡ take n ws ++ replicate (length ws - n) 0 → after ≡ widths graph nbits side g ++ replicate (k - rowCount graph g) 0
-widths-cleared graph nbits n k side g ws rest after e q l f = f ∙ rw (widths-front graph nbits n side g ws rest e q, l, e)
+pub widths-cleared : (σ : Sorts) (graph : Graph) (nbits n k : ℕ) (side g ws rest after : List ℕ) → n ≡ rowCount graph g → ws ≡ widths σ graph nbits side g ++ rest → length ws ≡ k
+    → after ≡ take n ws ++ replicate (length ws - n) 0 → after ≡ widths σ graph nbits side g ++ replicate (k - rowCount graph g) 0
+widths-cleared σ graph nbits n k side g ws rest after e q l f = f ∙ rw (widths-front σ graph nbits n side g ws rest e q, l, e)
 
 module _ (strict : Bool) (L : Lowering) (ws0 ws1 cls ent : List ℕ) where
   abbrev pub counts : Answer
   counts = firstRefusal (countAnswers (L .source) (L .target) (length ws0) (length ws1) (length cls) (length ent))
 
   abbrev pub forms : Answer
-  forms = firstRefusal (formAnswers strict (L .source) (L .target) (L .eroots) (L .troots))
+  forms = firstRefusal (formAnswers strict (L .edition) (L .source) (L .target) (L .eroots) (L .troots))
 
   abbrev pub matching : Answer
   matching = firstRefusal (matchAnswers L)
@@ -47,8 +49,8 @@ module _ (strict : Bool) (L : Lowering) (ws0 ws1 cls ent : List ℕ) where
   pub whole-is : whole ≡ andThen counts (andThen forms matching)
   whole-is =
       refusal-append (countAnswers (L .source) (L .target) (length ws0) (length ws1) (length cls) (length ent))
-      (formAnswers strict (L .source) (L .target) (L .eroots) (L .troots) ++ matchAnswers L)
-      ∙ ap (andThen counts) (refusal-append (formAnswers strict (L .source) (L .target) (L .eroots) (L .troots)) (matchAnswers L))
+      (formAnswers strict (L .edition) (L .source) (L .target) (L .eroots) (L .troots) ++ matchAnswers L)
+      ∙ ap (andThen counts) (refusal-append (formAnswers strict (L .edition) (L .source) (L .target) (L .eroots) (L .troots)) (matchAnswers L))
 
   -- after the counts no refusal is one that writes nothing
   pub keeps-rest : isAccepted counts ≡ true → keeps whole ≡ false
@@ -57,7 +59,7 @@ module _ (strict : Bool) (L : Lowering) (ws0 ws1 cls ent : List ℕ) where
     where
       whole-keeps : (b : Bool) → isAccepted forms ≡ b → keeps whole ≡ false
       whole-keeps true e = rw (whole-is, c, e) (keeps-match L)
-      whole-keeps false e = rw (whole-is, c, e) (keeps-forms strict (L .source) (L .target) (L .eroots) (L .troots))
+      whole-keeps false e = rw (whole-is, c, e) (keeps-forms strict (L .edition) (L .source) (L .target) (L .eroots) (L .troots))
 
   -- the four lists with what acceptance writes; what a refusal leaves that zeroes them
   abbrev pub four : List (List ℕ × List ℕ)
@@ -83,7 +85,7 @@ module _ (strict : Bool) (L : Lowering) (ws0 ws1 cls ent : List ℕ) where
       pub graph-done : a ≡ forms → isAccepted a ≡ false → result a cleared ≡ checkBy strict L ws0 ws1 cls ent
       graph-done e n =
           zeroed (whole-is ∙ rw (c, rw e at n) (sym e)) n
-          (rw e (keeps-forms strict (L .source) (L .target) (L .eroots) (L .troots)))
+          (rw e (keeps-forms strict (L .edition) (L .source) (L .target) (L .eroots) (L .troots)))
 
       module _ (g : isAccepted forms ≡ true) where
         pub match-done : a ≡ matching → isAccepted a ≡ false → result a cleared ≡ checkBy strict L ws0 ws1 cls ent
@@ -94,8 +96,8 @@ module _ (strict : Bool) (L : Lowering) (ws0 ws1 cls ent : List ℕ) where
             ∷ (classes L (sourceRows L) ++ replicate (length cls - targetRows L) 0) ∷ (offsets L ++ replicate (length ent - targetRows L) 0) ∷ [])
             ≡ checkBy strict L ws0 ws1 cls ent
         accept-done e n =
-            let s = width-count Source (length (L .source .bits)) (L .source .side) (L .source .rows) in
-            let t = width-count Target (length (L .target .bits)) [] (L .target .rows) in
+            let s = width-count (arraySorts L) Source (length (L .source .bits)) (L .source .side) (L .source .rows) in
+            let t = width-count plain Target (length (L .target .bits)) [] (L .target .rows) in
             settle a _ (whole-is ∙ rw (c, g) (sym e)) (rw (n, s, t, class-count, offset-count))
           where
             class-count : length (classes L (sourceRows L)) ≡ targetRows L
@@ -131,14 +133,24 @@ module _ (strict : Bool) (L : Lowering) (ws0 ws1 cls ent : List ℕ) where
     pub room-3 : targetRows L ≤ length ent
     room-3 = let (_, (_, (_, (_, (_, (e, _)))))) = tests in room 4 (length ent) (targetRows L) e
 
-  -- forms that pass are well formed
+  -- forms that pass have a good table, and are well formed
+  abbrev graphs : List Answer
+  graphs = formsOf (L .edition) (L .source) (L .target)
+
+  graphs-pass : isAccepted forms ≡ true → isAccepted (firstRefusal graphs) ≡ true
+  graphs-pass f =
+      none-refused graphs (each-append graphs (bitAnswers strict (widthsOfSource L) (L .eroots) (widthsOfTarget L) (L .troots)) (each _ f) .0)
+
+  pub forms-sorted : isAccepted forms ≡ true → Good (L .edition)
+  forms-sorted f = table-good (sortAnswer (L .edition)) (L .source) (L .target) (sourceIll (arraySorts L) (L .source)) (targetIll (L .target)) (graphs-pass f)
+
   pub forms-formed : isAccepted forms ≡ true → Formed (L .source) (L .target)
   forms-formed f =
-      let graphs = graphAnswers (L .source) (L .target) (sourceIll (L .source)) (targetIll (L .target)) in
-      let g = none-refused graphs (each-append graphs (bitAnswers strict (widthsOfSource L) (L .eroots) (widthsOfTarget L) (L .troots)) (each _ f) .0) in
+      let g = graphs-pass f in
       record {
-        source-formed = well-formed Source (length (L .source .bits)) (L .source .side) (L .source .rows) (no-stop-source (L .source) (L .target) (sourceIll (L .source)) (targetIll (L .target)) g);
-        target-formed = well-formed Target (length (L .target .bits)) [] (L .target .rows) (no-stop-target (L .source) (L .target) (sourceIll (L .source)) (targetIll (L .target)) g);
+        sorts = arraySorts L;
+        source-formed = well-formed (arraySorts L) Source (length (L .source .bits)) (L .source .side) (L .source .rows) (no-stop-source (sortAnswer (L .edition)) (L .source) (L .target) (sourceIll (arraySorts L) (L .source)) (targetIll (L .target)) g);
+        target-formed = well-formed plain Target (length (L .target .bits)) [] (L .target .rows) (no-stop-target (sortAnswer (L .edition)) (L .source) (L .target) (sourceIll (arraySorts L) (L .source)) (targetIll (L .target)) g);
       }
 
 -- a result by its lists

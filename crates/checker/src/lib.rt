@@ -1,14 +1,15 @@
-// The operation Check, and the strict check: one function with a switch.
+// The operation Check, and the strict check, on either edition: one function with two switches.
 ghost use mathlib.Core.Path.{_≡_};
 ghost use mathlib.Core.List.{[], _∷_};
 ghost use Rattle.answers.specs.Result.{result};
-ghost use Rattle.lowering.specs.Lowering.{lowering};
+ghost use Rattle.sorts.specs.Sorts.{edition};
+ghost use Rattle.lowering.specs.Lowering.{loweringIn};
 ghost use Rattle.lowering.specs.Check.{checkBy};
 use answers::Answer;
 use rows::Graph;
 
-// Whether the target is the lowering of the source, or the first refusal by 01's order, with 19 where the check is strict; in the four lists the
-// widths of both graphs, the classes and the entry offsets.
+// Whether the target is the lowering of the source, or the first refusal by 01's order, with 19 where the check is strict and 28 where the edition is the
+// second, whose table gives the arrays their sorts; in the four lists the widths of both graphs, the classes and the entry offsets.
 pub fn check(
     strict: bool,
     source: &[u64],
@@ -22,14 +23,17 @@ pub fn check(
     target: &[u64],
     tbits: &[u8],
     troots: &[u64],
+    second: bool,
+    sorts: &[u64],
     ws0: &mut [u64],
     ws1: &mut [u64],
     cls: &mut [u64],
     ent: &mut [u64],
 ) -> Answer
     ensures outcome { λ r. ⌜ result r (now (ws0 .exit) ∷ now (ws1 .exit) ∷ now (cls .exit) ∷ now (ent .exit) ∷ [])
-        ≡ checkBy strict (lowering (now (source .entry)) (now (ebits .entry)) (now (eside .entry)) (now (eroots .entry)) (now (map .entry))
-        (now (reads .entry)) (now (calls .entry)) (now (cargs .entry)) (now (target .entry)) (now (tbits .entry)) (now (troots .entry)))
+        ≡ checkBy strict (loweringIn (edition second (now (sorts .entry))) (now (source .entry)) (now (ebits .entry)) (now (eside .entry))
+        (now (eroots .entry)) (now (map .entry)) (now (reads .entry)) (now (calls .entry)) (now (cargs .entry)) (now (target .entry))
+        (now (tbits .entry)) (now (troots .entry)))
         (now (ws0 .entry)) (now (ws1 .entry)) (now (cls .entry)) (now (ent .entry)) ⌝ }
 {
     let a = forms::count_answer(
@@ -52,6 +56,8 @@ pub fn check(
         target,
         tbits,
         troots,
+        second,
+        sorts,
         ws0,
         ws1,
     );
@@ -72,6 +78,8 @@ pub fn check(
         target,
         tbits,
         troots,
+        second,
+        sorts,
         &ws1[..n],
         cls,
         ent,

@@ -9,6 +9,7 @@ use borrow.Author.Tests.{lt-ltb, le-ltb, ltb-true, ltb-false}
 use lib.Dec.{ltb}
 use lib.ListN.{length, take, drop}
 use lib.Seq.{take-at}
+use Rattle.sorts.specs.Sorts.{Sorts, Edition, plain, sortsOf, sortAnswer}
 use Rattle.answers.specs.declared.Answer.{Answer}
 use Rattle.answers.specs.declared.Answer.the-variants.{Accepted, BadRow, BadBit, Ext, Core}
 use Rattle.answers.specs.Answer.{isAccepted, andThen}
@@ -24,14 +25,14 @@ use Rattle.wf.proofs.Stop.{stop-none, stop-ill}
 use Rattle.lowering.proofs.Inversion.{each, not-refused}
 use Rattle.lowering.proofs.Refusals.{refusal-append}
 use Rattle.lowering.specs.Lowering.{SourceGraph, TargetGraph}
-use Rattle.lowering.specs.Check.{sourceIll, targetIll, sourceRowWidths, targetRowWidths, firstRefusal, graphAnswers, graphsAnswer, bitAnswers, formAnswers}
+use Rattle.lowering.specs.Check.{sourceRowWidths, targetRowWidths, firstRefusal, graphAnswers, formsOf, graphsAnswer, bitAnswers, formAnswers}
 
 pub bad-row-le : (graph : Graph) (g : List ℕ) → badRow graph g ≤ rowCount graph g
 bad-row-le graph g = first-le (rowBad graph g) (rowCount graph g)
 
-module _ (S : SourceGraph) (T : TargetGraph) (x y : ℕ) where
+module _ (sort : Answer) (S : SourceGraph) (T : TargetGraph) (x y : ℕ) where
   abbrev answer : Answer
-  answer = firstRefusal (graphAnswers S T x y)
+  answer = firstRefusal (graphAnswers sort S T x y)
 
   pub bad-source : badRow Source (S .rows) < rowCount Source (S .rows) → answer ≡ BadRow (badRow Source (S .rows)) 1
   unfolding firstRefusal
@@ -53,88 +54,103 @@ module _ (S : SourceGraph) (T : TargetGraph) (x y : ℕ) where
         bit-target h = rw (le-ltb _ _ a, le-ltb _ _ b, le-ltb _ _ c, lt-ltb _ _ h)
 
         module _ (d : length (T .bits) ≤ badBit (T .bits)) where
-          pub ill-source : x < rowCount Source (S .rows) → answer ≡ Ext x
+          pub unsorted : isAccepted sort ≡ false → answer ≡ sort
           unfolding firstRefusal
-          ill-source h = rw (le-ltb _ _ a, le-ltb _ _ b, le-ltb _ _ c, le-ltb _ _ d, lt-ltb _ _ h)
+          unsorted h = rw (le-ltb _ _ a, le-ltb _ _ b, le-ltb _ _ c, le-ltb _ _ d, h)
 
-          module _ (e : rowCount Source (S .rows) ≤ x) where
-            pub ill-target : y < rowCount Target (T .rows) → answer ≡ Core y
+          module _ (sorted : isAccepted sort ≡ true) where
+            pub ill-source : x < rowCount Source (S .rows) → answer ≡ Ext x
             unfolding firstRefusal
-            ill-target h = rw (le-ltb _ _ a, le-ltb _ _ b, le-ltb _ _ c, le-ltb _ _ d, le-ltb _ _ e, lt-ltb _ _ h)
+            ill-source h = rw (le-ltb _ _ a, le-ltb _ _ b, le-ltb _ _ c, le-ltb _ _ d, sorted, lt-ltb _ _ h)
 
-            pub graphs-good : rowCount Target (T .rows) ≤ y → answer ≡ Accepted
-            unfolding firstRefusal
-            graphs-good f = rw (le-ltb _ _ a, le-ltb _ _ b, le-ltb _ _ c, le-ltb _ _ d, le-ltb _ _ e, le-ltb _ _ f)
+            module _ (e : rowCount Source (S .rows) ≤ x) where
+              pub ill-target : y < rowCount Target (T .rows) → answer ≡ Core y
+              unfolding firstRefusal
+              ill-target h = rw (le-ltb _ _ a, le-ltb _ _ b, le-ltb _ _ c, le-ltb _ _ d, sorted, le-ltb _ _ e, lt-ltb _ _ h)
+
+              pub graphs-good : rowCount Target (T .rows) ≤ y → answer ≡ Accepted
+              unfolding firstRefusal
+              graphs-good f = rw (le-ltb _ _ a, le-ltb _ _ b, le-ltb _ _ c, le-ltb _ _ d, sorted, le-ltb _ _ e, le-ltb _ _ f)
 
 -- a row that stops a pass is the ill-formed one, unless some row is badly encoded
-module _ (graph : Graph) (nbits : ℕ) (side g : List ℕ) where
-  stop-is-ill : rowCount graph g ≤ badRow graph g → stopRow graph nbits side g ≡ illRow graph nbits side g
-  stop-is-ill h = go (decLt (stopRow graph nbits side g) (rowCount graph g))
+module _ (σ : Sorts) (graph : Graph) (nbits : ℕ) (side g : List ℕ) where
+  stop-is-ill : rowCount graph g ≤ badRow graph g → stopRow σ graph nbits side g ≡ illRow σ graph nbits side g
+  stop-is-ill h = go (decLt (stopRow σ graph nbits side g) (rowCount graph g))
     where
-      go : Dec (stopRow graph nbits side g < rowCount graph g) → stopRow graph nbits side g ≡ illRow graph nbits side g
-      go (yes l) = sym (stop-ill graph nbits side g l h)
+      go : Dec (stopRow σ graph nbits side g < rowCount graph g) → stopRow σ graph nbits side g ≡ illRow σ graph nbits side g
+      go (yes l) = sym (stop-ill σ graph nbits side g l h)
       go (no l) =
-          let past : rowCount graph g ≤ stopRow graph nbits side g = omega arith in
-          first-all (rowStops graph nbits side g) (rowCount graph g) past ∙ sym (stop-none graph nbits side g past .1)
+          let past : rowCount graph g ≤ stopRow σ graph nbits side g = omega arith in
+          first-all (rowStops σ graph nbits side g) (rowCount graph g) past ∙ sym (stop-none σ graph nbits side g past .1)
 
-  pub stop-le : stopRow graph nbits side g ≤ rowCount graph g
-  stop-le = first-le (rowStops graph nbits side g) (rowCount graph g)
+  pub stop-le : stopRow σ graph nbits side g ≤ rowCount graph g
+  stop-le = first-le (rowStops σ graph nbits side g) (rowCount graph g)
 
 -- the stop rows give the same answer as the ill-formed rows
-pub graphs-stop : (S : SourceGraph) (T : TargetGraph)
-    → firstRefusal (graphAnswers S T (stopRow Source (length (S .bits)) (S .side) (S .rows)) (stopRow Target (length (T .bits)) [] (T .rows))) ≡ graphsAnswer S T
-graphs-stop S T = go _ refl _ refl
+pub graphs-stop : (E : Edition) (S : SourceGraph) (T : TargetGraph)
+    → firstRefusal (graphAnswers (sortAnswer E) S T (stopRow (sortsOf E) Source (length (S .bits)) (S .side) (S .rows)) (stopRow plain Target (length (T .bits)) [] (T .rows))) ≡ graphsAnswer E S T
+graphs-stop E S T = go _ refl _ refl
   where
     x : ℕ
-    x = stopRow Source (length (S .bits)) (S .side) (S .rows)
+    x = stopRow (sortsOf E) Source (length (S .bits)) (S .side) (S .rows)
 
     y : ℕ
-    y = stopRow Target (length (T .bits)) [] (T .rows)
+    y = stopRow plain Target (length (T .bits)) [] (T .rows)
 
     go : (b : Bool) → ltb (badRow Source (S .rows)) (rowCount Source (S .rows)) ≡ b → (c : Bool) → ltb (badRow Target (T .rows)) (rowCount Target (T .rows)) ≡ c
-        → firstRefusal (graphAnswers S T x y) ≡ graphsAnswer S T
-    go true e c f = bad-source S T x y (ltb-true _ _ e) ∙ sym (bad-source S T _ _ (ltb-true _ _ e))
-    go false e true f = bad-target S T x y (ltb-false _ _ e) (ltb-true _ _ f) ∙ sym (bad-target S T _ _ (ltb-false _ _ e) (ltb-true _ _ f))
+        → firstRefusal (graphAnswers (sortAnswer E) S T x y) ≡ graphsAnswer E S T
+    go true e c f = bad-source (sortAnswer E) S T x y (ltb-true _ _ e) ∙ sym (bad-source (sortAnswer E) S T _ _ (ltb-true _ _ e))
+    go false e true f = bad-target (sortAnswer E) S T x y (ltb-false _ _ e) (ltb-true _ _ f) ∙ sym (bad-target (sortAnswer E) S T _ _ (ltb-false _ _ e) (ltb-true _ _ f))
     go false e false f =
-        rw (stop-is-ill Source (length (S .bits)) (S .side) (S .rows) (ltb-false _ _ e), stop-is-ill Target (length (T .bits)) [] (T .rows) (ltb-false _ _ f))
+        rw (stop-is-ill (sortsOf E) Source (length (S .bits)) (S .side) (S .rows) (ltb-false _ _ e), stop-is-ill plain Target (length (T .bits)) [] (T .rows) (ltb-false _ _ f))
 
 -- a row that stops the pass along the source settles the answer, wherever the target's pass stops
-pub source-settles : (S : SourceGraph) (T : TargetGraph) (x y z : ℕ) → x < rowCount Source (S .rows) → firstRefusal (graphAnswers S T x y) ≡ firstRefusal (graphAnswers S T x z)
+pub source-settles : (sort : Answer) (S : SourceGraph) (T : TargetGraph) (x y z : ℕ) → x < rowCount Source (S .rows)
+    → firstRefusal (graphAnswers sort S T x y) ≡ firstRefusal (graphAnswers sort S T x z)
 unfolding firstRefusal
-source-settles S T x y z h = rw (lt-ltb _ _ h)
+source-settles sort S T x y z h = rw (lt-ltb _ _ h)
 
--- acceptance: no row stops a pass
-module _ (S : SourceGraph) (T : TargetGraph) (x y : ℕ) (accepts : isAccepted (firstRefusal (graphAnswers S T x y)) ≡ true) where
+-- and a sort table that is refused settles it, wherever the two would stop
+pub sort-settles : (sort : Answer) (S : SourceGraph) (T : TargetGraph) (x y v w : ℕ) → isAccepted sort ≡ false
+    → firstRefusal (graphAnswers sort S T x y) ≡ firstRefusal (graphAnswers sort S T v w)
+unfolding firstRefusal
+sort-settles sort S T x y v w n = rw n
+
+-- acceptance: no row stops a pass, and the table is good
+module _ (sort : Answer) (S : SourceGraph) (T : TargetGraph) (x y : ℕ) (accepts : isAccepted (firstRefusal (graphAnswers sort S T x y)) ≡ true) where
+  pub table-good : isAccepted sort ≡ true
+  table-good = let (_, (_, (_, (_, (good, _))))) = each _ accepts in good
+
   pub no-stop-source : rowCount Source (S .rows) ≤ x
-  no-stop-source = let (_, (_, (_, (_, (ill0, _))))) = each _ accepts in ltb-false _ _ (not-refused _ (Ext x) refl ill0)
+  no-stop-source = let (_, (_, (_, (_, (_, (ill0, _)))))) = each _ accepts in ltb-false _ _ (not-refused _ (Ext x) refl ill0)
 
   pub no-stop-target : rowCount Target (T .rows) ≤ y
-  no-stop-target = let (_, (_, (_, (_, (_, (ill1, _)))))) = each _ accepts in ltb-false _ _ (not-refused _ (Core y) refl ill1)
+  no-stop-target = let (_, (_, (_, (_, (_, (_, (ill1, _))))))) = each _ accepts in ltb-false _ _ (not-refused _ (Core y) refl ill1)
 
 -- so the whole list of widths stands there
-pub widths-all : (graph : Graph) (nbits : ℕ) (side g ws : List ℕ) → rowCount graph g ≤ stopRow graph nbits side g
-    → widthsTo graph nbits side g (stopRow graph nbits side g) ++ drop (stopRow graph nbits side g) ws ≡ widths graph nbits side g ++ drop (rowCount graph g) ws
-widths-all graph nbits side g ws h = rw (first-all (rowStops graph nbits side g) (rowCount graph g) h)
+pub widths-all : (σ : Sorts) (graph : Graph) (nbits : ℕ) (side g ws : List ℕ) → rowCount graph g ≤ stopRow σ graph nbits side g
+    → widthsTo σ graph nbits side g (stopRow σ graph nbits side g) ++ drop (stopRow σ graph nbits side g) ws ≡ widths σ graph nbits side g ++ drop (rowCount graph g) ws
+widths-all σ graph nbits side g ws h = rw (first-all (rowStops σ graph nbits side g) (rowCount graph g) h)
 
 -- a list of widths has one for each row, and stands in front
-pub width-count : (graph : Graph) (nbits : ℕ) (side g : List ℕ) → length (widths graph nbits side g) ≡ rowCount graph g
-width-count graph nbits side g = build-length (rowWidth graph nbits side g) (rowCount graph g)
+pub width-count : (σ : Sorts) (graph : Graph) (nbits : ℕ) (side g : List ℕ) → length (widths σ graph nbits side g) ≡ rowCount graph g
+width-count σ graph nbits side g = build-length (rowWidth σ graph nbits side g) (rowCount graph g)
 
-pub widths-front : (graph : Graph) (nbits n : ℕ) (side g ws rest : List ℕ) → n ≡ rowCount graph g → ws ≡ widths graph nbits side g ++ rest
-    → take n ws ≡ widths graph nbits side g
-widths-front graph nbits n side g ws rest e q = rw (e, q) (take-at (widths graph nbits side g) rest (rowCount graph g) (width-count graph nbits side g))
+pub widths-front : (σ : Sorts) (graph : Graph) (nbits n : ℕ) (side g ws rest : List ℕ) → n ≡ rowCount graph g → ws ≡ widths σ graph nbits side g ++ rest
+    → take n ws ≡ widths σ graph nbits side g
+widths-front σ graph nbits n side g ws rest e q = rw (e, q) (take-at (widths σ graph nbits side g) rest (rowCount graph g) (width-count σ graph nbits side g))
 
 -- the roots are asked where both graphs pass
-module _ (strict : Bool) (S : SourceGraph) (T : TargetGraph) (eroots troots : List ℕ) (g : Answer) (graphs : g ≡ graphsAnswer S T) where
-  forms-are : firstRefusal (formAnswers strict S T eroots troots)
-      ≡ andThen g (firstRefusal (bitAnswers strict (sourceRowWidths S) eroots (targetRowWidths T) troots))
+module _ (strict : Bool) (E : Edition) (S : SourceGraph) (T : TargetGraph) (eroots troots : List ℕ) (g : Answer) (graphs : g ≡ graphsAnswer E S T) where
+  forms-are : firstRefusal (formAnswers strict E S T eroots troots)
+      ≡ andThen g (firstRefusal (bitAnswers strict (sourceRowWidths (sortsOf E) S) eroots (targetRowWidths T) troots))
   forms-are =
-      refusal-append (graphAnswers S T (sourceIll S) (targetIll T)) (bitAnswers strict (sourceRowWidths S) eroots (targetRowWidths T) troots)
+      refusal-append (formsOf E S T) (bitAnswers strict (sourceRowWidths (sortsOf E) S) eroots (targetRowWidths T) troots)
       ∙ rw (← graphs)
 
-  pub graphs-refused : isAccepted g ≡ false → g ≡ firstRefusal (formAnswers strict S T eroots troots)
+  pub graphs-refused : isAccepted g ≡ false → g ≡ firstRefusal (formAnswers strict E S T eroots troots)
   graphs-refused n = sym (forms-are ∙ rw n)
 
   pub roots-asked : isAccepted g ≡ true → (a : Answer) (ws0 ws1 : List ℕ) → a ≡ firstRefusal (bitAnswers strict ws0 eroots ws1 troots)
-      → ws0 ≡ sourceRowWidths S → ws1 ≡ targetRowWidths T → a ≡ firstRefusal (formAnswers strict S T eroots troots)
+      → ws0 ≡ sourceRowWidths (sortsOf E) S → ws1 ≡ targetRowWidths T → a ≡ firstRefusal (formAnswers strict E S T eroots troots)
   roots-asked n a ws0 ws1 e p q = e ∙ rw (p, q) (sym (forms-are ∙ rw n))

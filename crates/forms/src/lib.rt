@@ -8,6 +8,7 @@ ghost use Rattle.answers.specs.Answer.{isAccepted};
 ghost use Rattle.rows.specs.declared.Graph.{Graph};
 ghost use Rattle.rows.specs.Row.{rowCount};
 ghost use Rattle.encoding.specs.Encoding.{rowBad};
+ghost use Rattle.sorts.specs.Sorts.{edition, plain, sortsOf};
 ghost use Rattle.wf.specs.Widths.{widths};
 ghost use Rattle.lowering.specs.Lowering.{SourceGraph, TargetGraph, sourceGraph, targetGraph};
 ghost use Rattle.lowering.specs.Check.{firstRefusal, countAnswers, graphAnswers, graphsAnswer, formAnswers};
@@ -48,8 +49,9 @@ pub fn count_answer(
     Answer::Accepted
 }
 
-// 16, 17, 1 and 2, where each graph's rows before its row `stop` are good and well formed, and that row, if any, is badly encoded or ill-formed.
+// 16, 17, the sort table's answer, 1 and 2, where each graph's rows before its row `stop` are good and well formed, and that row, if any, is badly encoded or ill-formed.
 fn graph_answer(
+    sort: Answer,
     source: &[u64],
     ebits: &[u8],
     target: &[u64],
@@ -61,7 +63,7 @@ fn graph_answer(
     requires { ⌜ ((j : ℕ) → j < stop0 → rowBad Graph.Source (now source) j ≡ false) ⌝ }
     requires { ⌜ stop1 ≤ rowCount Graph.Target (now target) ⌝ }
     requires { ⌜ ((j : ℕ) → j < stop1 → rowBad Graph.Target (now target) j ≡ false) ⌝ }
-    ensures answer { λ r. ⌜ r ≡ firstRefusal (graphAnswers (sourceGraph (now (source .entry)) (now (ebits .entry)) [])
+    ensures answer { λ r. ⌜ r ≡ firstRefusal (graphAnswers sort (sourceGraph (now (source .entry)) (now (ebits .entry)) [])
         (targetGraph (now (target .entry)) (now (tbits .entry))) stop0 stop1) ⌝ }
 {
     let row0 = encoding::bad_row(Graph::Source, source, stop0);
@@ -80,6 +82,9 @@ fn graph_answer(
     if bit1 < tbits.len() {
         return Answer::BadBit(bit1 as u64, 2);
     }
+    if !answers::is_accepted(sort) {
+        return sort;
+    }
     if stop0 < row0 {
         return Answer::Ext(stop0 as u64);
     }
@@ -89,11 +94,14 @@ fn graph_answer(
     Answer::Accepted
 }
 
-// The widths of both graphs, or the first refusal by 01's order; a source that is refused leaves the target's widths unasked.
+// The widths of both graphs, the source's by the sorts of an edition, or the first refusal by 01's order; a source that is refused leaves the target's
+// widths unasked, a table that is refused both graphs'.
 fn graphs(
     source: &[u64],
     ebits: &[u8],
     eside: &[u64],
+    second: bool,
+    sorts: &[u64],
     target: &[u64],
     tbits: &[u8],
     ws0: &mut [u64],
@@ -101,27 +109,43 @@ fn graphs(
 ) -> Answer
     requires { ⌜ rowCount Graph.Source (now source) ≤ length (now ws0) ⌝ }
     requires { ⌜ rowCount Graph.Target (now target) ≤ length (now ws1) ⌝ }
-    ensures answer { λ r. ⌜ r ≡ graphsAnswer (sourceGraph (now (source .entry)) (now (ebits .entry)) (now (eside .entry)))
+    ensures answer { λ r. ⌜ r ≡ graphsAnswer (edition second (now (sorts .entry))) (sourceGraph (now (source .entry)) (now (ebits .entry)) (now (eside .entry)))
         (targetGraph (now (target .entry)) (now (tbits .entry))) ⌝ }
     ensures source_list { λ r. ⌜ (isAccepted r ≡ true → now (ws0 .exit)
-        ≡ widths Graph.Source (length (now (ebits .entry))) (now (eside .entry)) (now (source .entry))
+        ≡ widths (sortsOf (edition second (now (sorts .entry)))) Graph.Source (length (now (ebits .entry))) (now (eside .entry))
+        (now (source .entry))
         ++ drop (rowCount Graph.Source (now (source .entry))) (now (ws0 .entry))) ⌝ }
     ensures target_list { λ r. ⌜ (isAccepted r ≡ true → now (ws1 .exit)
-        ≡ widths Graph.Target (length (now (tbits .entry))) [] (now (target .entry))
+        ≡ widths plain Graph.Target (length (now (tbits .entry))) [] (now (target .entry))
         ++ drop (rowCount Graph.Target (now (target .entry))) (now (ws1 .entry))) ⌝ }
 {
-    let stop0 = wf::graph_wf(Graph::Source, source, ebits.len() as u64, eside, ws0);
-    if stop0 < rows::row_count(Graph::Source, source) {
-        return graph_answer(source, ebits, target, tbits, stop0, 0);
+    let sort = sorts::sort_answer(second, sorts);
+    if !answers::is_accepted(sort) {
+        return graph_answer(sort, source, ebits, target, tbits, 0, 0);
     }
+    let stop0 = wf::graph_wf(
+        Graph::Source,
+        source,
+        ebits.len() as u64,
+        eside,
+        second,
+        sorts,
+        ws0,
+    );
+    if stop0 < rows::row_count(Graph::Source, source) {
+        return graph_answer(sort, source, ebits, target, tbits, stop0, 0);
+    }
+    let none = &target[0..0];
     let stop1 = wf::graph_wf(
         Graph::Target,
         target,
         tbits.len() as u64,
-        &target[0..0],
+        none,
+        false,
+        none,
         ws1,
     );
-    graph_answer(source, ebits, target, tbits, stop0, stop1)
+    graph_answer(sort, source, ebits, target, tbits, stop0, stop1)
 }
 
 // The same of two graphs with their roots, which the strict check asks to be rows of one bit.
@@ -134,22 +158,25 @@ pub fn rooted_graphs(
     target: &[u64],
     tbits: &[u8],
     troots: &[u64],
+    second: bool,
+    sorts: &[u64],
     ws0: &mut [u64],
     ws1: &mut [u64],
 ) -> Answer
     requires { ⌜ rowCount Graph.Source (now source) ≤ length (now ws0) ⌝ }
     requires { ⌜ rowCount Graph.Target (now target) ≤ length (now ws1) ⌝ }
-    ensures answer { λ r. ⌜ r ≡ firstRefusal (formAnswers strict
+    ensures answer { λ r. ⌜ r ≡ firstRefusal (formAnswers strict (edition second (now (sorts .entry)))
         (sourceGraph (now (source .entry)) (now (ebits .entry)) (now (eside .entry)))
         (targetGraph (now (target .entry)) (now (tbits .entry))) (now (eroots .entry)) (now (troots .entry))) ⌝ }
     ensures source_list { λ r. ⌜ (isAccepted r ≡ true → now (ws0 .exit)
-        ≡ widths Graph.Source (length (now (ebits .entry))) (now (eside .entry)) (now (source .entry))
+        ≡ widths (sortsOf (edition second (now (sorts .entry)))) Graph.Source (length (now (ebits .entry))) (now (eside .entry))
+        (now (source .entry))
         ++ drop (rowCount Graph.Source (now (source .entry))) (now (ws0 .entry))) ⌝ }
     ensures target_list { λ r. ⌜ (isAccepted r ≡ true → now (ws1 .exit)
-        ≡ widths Graph.Target (length (now (tbits .entry))) [] (now (target .entry))
+        ≡ widths plain Graph.Target (length (now (tbits .entry))) [] (now (target .entry))
         ++ drop (rowCount Graph.Target (now (target .entry))) (now (ws1 .entry))) ⌝ }
 {
-    let g = graphs(source, ebits, eside, target, tbits, ws0, ws1);
+    let g = graphs(source, ebits, eside, second, sorts, target, tbits, ws0, ws1);
     if !answers::is_accepted(g) {
         return g;
     }

@@ -6,6 +6,7 @@ use mathlib.Core.List.{List}
 use borrow.Author.Tests.{eq-eqb, ne-eqb}
 use lib.Dec.{eqb}
 use lib.ListN.{length, getD}
+use Rattle.sorts.specs.Sorts.{Sorts}
 use Rattle.lists.specs.Tests.{all, agree}
 use Rattle.rows.specs.declared.Graph.{Graph}
 use Rattle.rows.specs.Row.{rowCount, rowAt}
@@ -19,7 +20,7 @@ use Rattle.images.specs.Constants.{constant, constantOf}
 use Rattle.lists.proofs.Choice.{last-test}
 
 -- in a well-formed graph the bits of every constant lie in the list of bits
-pub bits-within : (graph : Graph) (bits side g ws : List ℕ) → WellFormed graph (length bits) side g ws
+pub bits-within : {σ : Sorts} (graph : Graph) (bits side g ws : List ℕ) → WellFormed σ graph (length bits) side g ws
     → (i : ℕ) → i < rowCount graph g → BitsWithin bits (rowAt graph g i)
 bits-within graph bits side g ws formed i h e = (rw (const-row (rowAt graph g i) e) at (formed i h .follows)) .1
 

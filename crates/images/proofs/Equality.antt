@@ -6,6 +6,7 @@ use mathlib.Core.List.{List, []}
 use native.Mathlib.Omega.{arith}
 use borrow.Author.Tests.{lt-ltb, le-ltb}
 use lib.ListN.{getD}
+use Rattle.sorts.specs.Sorts.{plain}
 use Rattle.lists.specs.Tests.{all}
 use Rattle.rows.specs.declared.Graph.the-variants.{Target}
 use Rattle.rows.specs.declared.Node.the-variants.{Bin}
@@ -28,7 +29,7 @@ module _ (target : List ℕ) where
   eq-in a b r h = rw (lt-ltb _ _ h) (sym (last-test (rowIs (rowAt Target target r) (Bin tEq a b))))
 
 -- in a well-formed target the operands of an Eq row have one width
-pub eqs-even : (nbits : ℕ) (target ws : List ℕ) → WellFormed Target nbits [] target ws → (a b r : ℕ) → isEq target a b r ≡ true
+pub eqs-even : (nbits : ℕ) (target ws : List ℕ) → WellFormed plain Target nbits [] target ws → (a b r : ℕ) → isEq target a b r ≡ true
     → getD ws a 0 ≡ getD ws b 0
 eqs-even nbits target ws formed a b r e =
     let (h, n) = eq-row target a b r e in

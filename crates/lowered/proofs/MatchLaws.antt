@@ -7,6 +7,7 @@ use native.Mathlib.Omega.{arith}
 use borrow.Author.Tests.{eq-eqb, ne-eqb, lt-ltb, le-ltb, ltb-false}
 use lib.Dec.{ltb}
 use lib.ListN.{length}
+use Rattle.sorts.specs.Sorts.{plain}
 use Rattle.answers.specs.declared.Answer.{Answer}
 use Rattle.answers.specs.declared.Answer.the-variants.{MapLength, DeadEntry, ReadTable, CallTable}
 use Rattle.answers.specs.Answer.{isAccepted}
@@ -17,7 +18,7 @@ use Rattle.rows.specs.declared.Graph.the-variants.{Target}
 use Rattle.wf.specs.Widths.{rowWidth}
 use Rattle.lowering.specs.Tables.{readCount, callCount, readClasses, callClasses, readOffsets, callOffsets}
 use Rattle.lowering.specs.Matching.{noted, classesTo, refusedRow, allRowsAnswer, deadEntry}
-use Rattle.lowering.specs.Lowering.{Lowering, sourceRows, targetRows, bindingOf, entriesOf}
+use Rattle.lowering.specs.Lowering.{arraySorts, Lowering, sourceRows, targetRows, bindingOf, entriesOf}
 use Rattle.lowering.specs.Check.{widthsOfTarget, noClasses, classesOfReads, classesOfTables, classes, offsets, answerOf, mismatch, rowsRefusal, deadVariable, refuse, firstRefusal, tableAnswers, rootAnswers, matchAnswers}
 use Rattle.lowering.proofs.Inversion.{each, not-refused, all-pass, first-refused}
 use Rattle.lowering.proofs.Refusals.{refusal-append}
@@ -31,7 +32,7 @@ module _ (L : Lowering) where
   answer = firstRefusal (matchAnswers L)
 
   abbrev pub tablesAnswer : Answer
-  tablesAnswer = firstRefusal (tableAnswers (entriesOf L) (L .target .rows) (widthsOfTarget L) (noClasses L))
+  tablesAnswer = firstRefusal (tableAnswers (arraySorts L) (entriesOf L) (L .target .rows) (widthsOfTarget L) (noClasses L))
 
   abbrev pub rootsAnswer : Answer
   rootsAnswer = firstRefusal (rootAnswers (entriesOf L) (L .target) (widthsOfTarget L) (L .map) (L .eroots) (L .troots))
@@ -47,16 +48,16 @@ module _ (L : Lowering) where
   map-3 n = rw (ne-eqb _ _ n)
 
   module _ (a : length (L .map) ≡ sourceRows L) where
-    after-map : answer ≡ firstRefusal (tableAnswers (entriesOf L) (L .target .rows) (widthsOfTarget L) (noClasses L) ++ rest)
+    after-map : answer ≡ firstRefusal (tableAnswers (arraySorts L) (entriesOf L) (L .target .rows) (widthsOfTarget L) (noClasses L) ++ rest)
     unfolding firstRefusal
     after-map = rw (eq-eqb _ _ a)
 
     pub tables-refuse : isAccepted tablesAnswer ≡ false → answer ≡ tablesAnswer
-    tables-refuse e = after-map ∙ refusal-append (tableAnswers (entriesOf L) (L .target .rows) (widthsOfTarget L) (noClasses L)) rest ∙ rw e
+    tables-refuse e = after-map ∙ refusal-append (tableAnswers (arraySorts L) (entriesOf L) (L .target .rows) (widthsOfTarget L) (noClasses L)) rest ∙ rw e
 
     module _ (b : isAccepted tablesAnswer ≡ true) where
       after-tables : answer ≡ firstRefusal rest
-      after-tables = after-map ∙ refusal-append (tableAnswers (entriesOf L) (L .target .rows) (widthsOfTarget L) (noClasses L)) rest ∙ rw b
+      after-tables = after-map ∙ refusal-append (tableAnswers (arraySorts L) (entriesOf L) (L .target .rows) (widthsOfTarget L) (noClasses L)) rest ∙ rw b
 
       pub rows-refuse : isAccepted (rowsRefusal L) ≡ false → answer ≡ rowsRefusal L
       unfolding firstRefusal
@@ -80,11 +81,11 @@ module _ (L : Lowering) where
   module _ (b : isAccepted tablesAnswer ≡ true) where
     pub reads-inside : ReadsIn (L .reads) (L .target .rows)
     reads-inside =
-        reads-in (L .reads) (L .target .rows) (widthsOfTarget L) (readClasses (L .reads) (noClasses L)) width-count
+        reads-in (arraySorts L) (L .reads) (L .target .rows) (widthsOfTarget L) (readClasses (L .reads) (noClasses L)) width-count
         (let (reads, _) = each _ b in all-pass _ (readCount (L .reads)) (not-refused _ (ReadTable _) refl reads))
       where
         width-count : length (widthsOfTarget L) ≤ targetRows L
-        width-count = let e = build-length (rowWidth Target (length (L .target .bits)) [] (L .target .rows)) (targetRows L) in omega arith
+        width-count = let e = build-length (rowWidth plain Target (length (L .target .bits)) [] (L .target .rows)) (targetRows L) in omega arith
 
     pub calls-inside : CallsIn (L .calls) (L .cargs)
     calls-inside =
@@ -93,7 +94,7 @@ module _ (L : Lowering) where
 
 -- the steps of the code on plain lists: what each call has answered and left
 module _ (L : Lowering) (ws cls0 ent0 : List ℕ) (wide : ws ≡ widthsOfTarget L) (clear : cls0 ≡ noClasses L) (clear-too : ent0 ≡ noClasses L)
-    (t : Answer) (cls1 ent1 : List ℕ) (tables : t ≡ firstRefusal (tableAnswers (entriesOf L) (L .target .rows) ws cls0))
+    (t : Answer) (cls1 ent1 : List ℕ) (tables : t ≡ firstRefusal (tableAnswers (arraySorts L) (entriesOf L) (L .target .rows) ws cls0))
     (marked : isAccepted t ≡ true → cls1 ≡ callClasses (L .calls) (readClasses (L .reads) cls0 (readCount (L .reads))) (callCount (L .calls)))
     (placed : isAccepted t ≡ true → ent1 ≡ callOffsets (L .calls) (readOffsets (L .reads) ent0 (readCount (L .reads))) (callCount (L .calls)))
     (mapped : length (L .map) ≡ sourceRows L) where

@@ -5,6 +5,7 @@ use mathlib.Core.Bool.{Bool, true, false, not, cond}
 use mathlib.Core.List.{List, [], _∷_, _++_}
 use lib.Dec.{eqb, ltb}
 use lib.ListN.{length, replicate}
+use Rattle.sorts.specs.Sorts.{Sorts, Edition, plain, sortsOf, sortAnswer}
 use Rattle.answers.specs.declared.Answer.{Answer}
 use Rattle.answers.specs.declared.Answer.the-variants.{Accepted, Ext, Core, RowCount, BadRow, BadBit, WorkShort, MapLength, ReadTable, CallTable}
 use Rattle.answers.specs.declared.Answer.the-variants.{DeadEntry, RootMismatch, CongruenceMismatch, BadRoot}
@@ -14,28 +15,28 @@ use Rattle.rows.specs.declared.Graph.the-variants.{Source, Target}
 use Rattle.rows.specs.Row.{rowCount, ragged}
 use Rattle.encoding.specs.Encoding.{badRow, badBit}
 use Rattle.wf.specs.Widths.{illRow, widths, badRoot}
-use Rattle.lowering.specs.Lowering.{SourceGraph, TargetGraph, Lowering, Entries, sourceRows, targetRows, bindingOf, entriesOf}
+use Rattle.lowering.specs.Lowering.{SourceGraph, TargetGraph, Lowering, Entries, arraySorts, sourceRows, targetRows, bindingOf, entriesOf}
 use Rattle.lowering.specs.Tables.{readCount, callCount, badRead, badCall, readClasses, callClasses, readOffsets, callOffsets}
 use Rattle.lowering.specs.Matching.{noted, rowAnswer, classesTo, refusedRow, allRowsAnswer, deadEntry}
 use Rattle.lowering.specs.Roots.{Pair, badLead, readPairs, callPairs, readRoot, callRoot, badCong}
 
--- the row of each graph that is named as ill-formed, or the number of rows
-abbrev pub sourceIll : SourceGraph → ℕ
-sourceIll S = illRow Source (length (S .bits)) (S .side) (S .rows)
+-- the row of each graph that is named as ill-formed, or the number of rows; σ are the sorts of the source's arrays
+abbrev pub sourceIll : Sorts → SourceGraph → ℕ
+sourceIll σ S = illRow σ Source (length (S .bits)) (S .side) (S .rows)
 
 abbrev pub targetIll : TargetGraph → ℕ
-targetIll T = illRow Target (length (T .bits)) [] (T .rows)
+targetIll T = illRow plain Target (length (T .bits)) [] (T .rows)
 
 -- the widths of each graph's rows
-abbrev pub sourceRowWidths : SourceGraph → List ℕ
-sourceRowWidths S = widths Source (length (S .bits)) (S .side) (S .rows)
+abbrev pub sourceRowWidths : Sorts → SourceGraph → List ℕ
+sourceRowWidths σ S = widths σ Source (length (S .bits)) (S .side) (S .rows)
 
 abbrev pub targetRowWidths : TargetGraph → List ℕ
-targetRowWidths T = widths Target (length (T .bits)) [] (T .rows)
+targetRowWidths T = widths plain Target (length (T .bits)) [] (T .rows)
 
 module _ (L : Lowering) where
   abbrev pub widthsOfSource : List ℕ
-  widthsOfSource = sourceRowWidths (L .source)
+  widthsOfSource = sourceRowWidths (arraySorts L) (L .source)
 
   abbrev pub widthsOfTarget : List ℕ
   widthsOfTarget = targetRowWidths (L .target)
@@ -104,19 +105,24 @@ countAnswers S T w0 w1 c e =
     ∷ []
 
 -- "16 BadRow: .. (row; detail 1 or 2 for the graph). 17 BadBit: .. (position; 1 or 2) .. where one has two causes, the source or lower list goes
--- first"; "Then 1 Ext (row); 2 Core (row)", of the rows named as ill-formed, if they are rows
-abbrev pub graphAnswers : SourceGraph → TargetGraph → ℕ → ℕ → List Answer
-graphAnswers S T ill0 ill1 =
+-- first"; the sort table's answer, "28 SortTable .. after 17" (02, 2.9); "Then 1 Ext (row); 2 Core (row)", of the rows named as ill-formed, if they are
+-- rows
+abbrev pub graphAnswers : Answer → SourceGraph → TargetGraph → ℕ → ℕ → List Answer
+graphAnswers sort S T ill0 ill1 =
     refuse (ltb (badRow Source (S .rows)) (rowCount Source (S .rows))) (BadRow (badRow Source (S .rows)) 1)
     ∷ refuse (ltb (badRow Target (T .rows)) (rowCount Target (T .rows))) (BadRow (badRow Target (T .rows)) 2)
     ∷ refuse (ltb (badBit (S .bits)) (length (S .bits))) (BadBit (badBit (S .bits)) 1)
     ∷ refuse (ltb (badBit (T .bits)) (length (T .bits))) (BadBit (badBit (T .bits)) 2)
+    ∷ sort
     ∷ refuse (ltb ill0 (rowCount Source (S .rows))) (Ext ill0)
     ∷ refuse (ltb ill1 (rowCount Target (T .rows))) (Core ill1)
     ∷ []
 
-abbrev pub graphsAnswer : SourceGraph → TargetGraph → Answer
-graphsAnswer S T = firstRefusal (graphAnswers S T (sourceIll S) (targetIll T))
+abbrev pub formsOf : Edition → SourceGraph → TargetGraph → List Answer
+formsOf E S T = graphAnswers (sortAnswer E) S T (sourceIll (sortsOf E) S) (targetIll T)
+
+abbrev pub graphsAnswer : Edition → SourceGraph → TargetGraph → Answer
+graphsAnswer E S T = firstRefusal (formsOf E S T)
 
 -- "It looks at source roots, then target roots, with 19 BadRoot (position; detail 1 source, 2 target)" (02, 2.6), each by the widths of its graph's
 -- rows; 01's Check: "Roots' widths are not examined by the checker"
@@ -129,9 +135,9 @@ bitAnswers strict ws0 eroots ws1 troots =
     []
 
 -- two graphs with their roots: 19 stands "directly after target well-formedness" (02, 2.6)
-abbrev pub formAnswers : Bool → SourceGraph → TargetGraph → List ℕ → List ℕ → List Answer
-formAnswers strict S T eroots troots =
-    graphAnswers S T (sourceIll S) (targetIll T) ++ bitAnswers strict (sourceRowWidths S) eroots (targetRowWidths T) troots
+abbrev pub formAnswers : Bool → Edition → SourceGraph → TargetGraph → List ℕ → List ℕ → List Answer
+formAnswers strict E S T eroots troots =
+    formsOf E S T ++ bitAnswers strict (sourceRowWidths (sortsOf E) S) eroots (targetRowWidths T) troots
 
 -- "12 RootMismatch; 13 CongruenceMismatch (position in the target root list, possibly its length); 12 for surplus roots."
 -- The place of 12 is the position of the first source root that has no image, differs or finds the list ended; roots left over have none
@@ -150,9 +156,9 @@ rootAnswers E T ws map eroots troots =
     ∷ []
 
 -- "5 ReadTable (entry); 6 CallTable (entry)", over the target's widths and its classes, "first 0"
-abbrev pub tableAnswers : Entries → List ℕ → List ℕ → List ℕ → List Answer
-tableAnswers E target ws cls =
-    let r = badRead (E .reads) target ws cls in
+abbrev pub tableAnswers : Sorts → Entries → List ℕ → List ℕ → List ℕ → List Answer
+tableAnswers σ E target ws cls =
+    let r = badRead σ (E .reads) target ws cls in
     let c = badCall (E .calls) (E .cargs) target ws (readClasses (E .reads) cls (readCount (E .reads))) in
     refuse (ltb r (readCount (E .reads))) (ReadTable r) ∷ refuse (ltb c (callCount (E .calls))) (CallTable c) ∷ []
 
@@ -161,7 +167,7 @@ tableAnswers E target ws cls =
 abbrev pub matchAnswers : Lowering → List Answer
 matchAnswers L =
     refuse (not (eqb (length (L .map)) (sourceRows L))) (MapLength (sourceRows L) (length (L .map)))
-    ∷ tableAnswers (entriesOf L) (L .target .rows) (widthsOfTarget L) (noClasses L)
+    ∷ tableAnswers (arraySorts L) (entriesOf L) (L .target .rows) (widthsOfTarget L) (noClasses L)
     ++ (rowsRefusal L
     ∷ refuse (ltb (deadVariable L) (targetRows L)) (DeadEntry (deadVariable L))
     ∷ rootAnswers (entriesOf L) (L .target) (widthsOfTarget L) (L .map) (L .eroots) (L .troots))
@@ -170,7 +176,7 @@ matchAnswers L =
 abbrev pub checkAnswerBy : Bool → Lowering → ℕ → ℕ → ℕ → ℕ → Answer
 checkAnswerBy strict L w0 w1 c e =
     firstRefusal
-    (countAnswers (L .source) (L .target) w0 w1 c e ++ (formAnswers strict (L .source) (L .target) (L .eroots) (L .troots) ++ matchAnswers L))
+    (countAnswers (L .source) (L .target) w0 w1 c e ++ (formAnswers strict (L .edition) (L .source) (L .target) (L .eroots) (L .troots) ++ matchAnswers L))
 
 abbrev pub checkAnswer : Lowering → ℕ → ℕ → ℕ → ℕ → Answer
 checkAnswer L w0 w1 c e = checkAnswerBy false L w0 w1 c e

@@ -1,6 +1,7 @@
 -- What Check is asked, and the rows of its two graphs (01, 'Rows'). Assumes nothing.
 use Prim.Native.Nat.{ℕ}
 use mathlib.Core.List.{List}
+use Rattle.sorts.specs.Sorts.{Sorts, Edition, firstEdition, sortsOf}
 use Rattle.rows.specs.declared.Graph.the-variants.{Source, Target}
 use Rattle.rows.specs.Row.{rowCount}
 
@@ -21,8 +22,9 @@ pub record TargetGraph : Type 0 where
 abbrev pub targetGraph : List ℕ → List ℕ → TargetGraph
 targetGraph rows bits = record { rows = rows; bits = bits }
 
--- what Check is asked: a source, a target, the map and the two tables that bind them, the roots of both
+-- what Check is asked: the edition, which gives arrays their sorts; a source, a target, the map and the two tables that bind them, the roots of both
 pub record Lowering : Type 0 where
+  pub edition : Edition
   pub source : SourceGraph
   pub target : TargetGraph
   pub map : List ℕ
@@ -32,10 +34,11 @@ pub record Lowering : Type 0 where
   pub eroots : List ℕ
   pub troots : List ℕ
 
--- the eleven lists of `check_sliver_lowering`, in its order (its `e` and `t` are the source and the target)
-abbrev pub lowering : List ℕ → List ℕ → List ℕ → List ℕ → List ℕ → List ℕ → List ℕ → List ℕ → List ℕ → List ℕ → List ℕ → Lowering
-lowering source ebits eside eroots map reads calls cargs target tbits troots =
+-- an edition and the eleven lists of `check_sliver_lowering`, in its order (its `e` and `t` are the source and the target)
+abbrev pub loweringIn : Edition → List ℕ → List ℕ → List ℕ → List ℕ → List ℕ → List ℕ → List ℕ → List ℕ → List ℕ → List ℕ → List ℕ → Lowering
+loweringIn E source ebits eside eroots map reads calls cargs target tbits troots =
     record {
+      edition = E;
       source = sourceGraph source ebits eside;
       target = targetGraph target tbits;
       map = map;
@@ -45,6 +48,11 @@ lowering source ebits eside eroots map reads calls cargs target tbits troots =
       eroots = eroots;
       troots = troots;
     }
+
+-- "the first edition" (02, 2.9)
+abbrev pub lowering : List ℕ → List ℕ → List ℕ → List ℕ → List ℕ → List ℕ → List ℕ → List ℕ → List ℕ → List ℕ → List ℕ → Lowering
+lowering source ebits eside eroots map reads calls cargs target tbits troots =
+    loweringIn firstEdition source ebits eside eroots map reads calls cargs target tbits troots
 
 -- the entries of the two tables: reads, calls and the calls' arguments
 pub record Entries : Type 0 where
@@ -69,6 +77,10 @@ binding source ebits eside map reads calls cargs target tbits =
     record { source = sourceGraph source ebits eside; target = targetGraph target tbits; map = map; reads = reads; calls = calls; cargs = cargs }
 
 module _ (L : Lowering) where
+  -- the sorts of its arrays
+  abbrev pub arraySorts : Sorts
+  arraySorts = sortsOf (L .edition)
+
   abbrev pub sourceRows : ℕ
   sourceRows = rowCount Source (L .source .rows)
 

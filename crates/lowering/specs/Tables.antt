@@ -4,6 +4,7 @@ use mathlib.Core.Bool.{Bool, not}
 use mathlib.Core.List.{List, [], _∷_}
 use lib.Dec.{eqb, ltb, leb}
 use lib.ListN.{length, getD}
+use Rattle.sorts.specs.Sorts.{Sorts}
 use Rattle.lists.specs.First.{first, none}
 use Rattle.lists.specs.Tests.{all, agree}
 use Rattle.lists.specs.Trace.{marks}
@@ -11,7 +12,7 @@ use Rattle.rows.specs.declared.Graph.the-variants.{Target}
 use Rattle.rows.specs.declared.Node.the-variants.{Var}
 use Rattle.rows.specs.Row.{rowCount, rowAt}
 use Rattle.rows.specs.Tags.{tVar}
-use Rattle.rules.specs.Rule.{indexWidth, cellWidth, hasWidth}
+use Rattle.rules.specs.Rule.{hasWidth}
 use Rattle.lowering.specs.Images.{rowIs}
 
 -- a table has entries of `stride` words, and a cut entry counts as one; the first word of an entry is its variable's row
@@ -89,11 +90,13 @@ entryGood stride isVar table target cls k own =
     ∷ eqb (getD cls (entryVar stride table k) 0) 0
     ∷ own)
 
--- 5: "index .. out of range, index width not 32, or the same key again"; ws are the target's widths
-unfoldable pub readGood : List ℕ → List ℕ → List ℕ → List ℕ → ℕ → Bool
-readGood reads target ws cls k =
-    entryGood 3 (λ r. rowIs r (Var (cellWidth (readArray reads k)))) reads target cls k
-    (hasWidth ws (readIndex reads k) (indexWidth (readArray reads k))
+-- 5: "index .. out of range, index width not 32, or the same key again", where 32 and the variable's 8 are the array's widths; ws are the target's
+-- widths, σ the sorts. An array without a sort has a cell width of 0, which no Var of a well-formed target has: "a read entry that names one is refused
+-- by 5" (02, 2.9)
+unfoldable pub readGood : Sorts → List ℕ → List ℕ → List ℕ → List ℕ → ℕ → Bool
+readGood σ reads target ws cls k =
+    entryGood 3 (λ r. rowIs r (Var (σ .cell (readArray reads k)))) reads target cls k
+    (hasWidth ws (readIndex reads k) (σ .index (readArray reads k))
     ∷ none (λ l. sameRead reads l k) k
     ∷ [])
 
@@ -130,8 +133,8 @@ readOffsets reads ent n = tableOffsets 3 reads ent n
 abbrev pub callOffsets : List ℕ → List ℕ → ℕ → List ℕ
 callOffsets calls ent n = tableOffsets 4 calls ent n
 
-abbrev pub badRead : List ℕ → List ℕ → List ℕ → List ℕ → ℕ
-badRead reads target ws cls = badEntry 3 2 (readGood reads target ws) reads cls
+abbrev pub badRead : Sorts → List ℕ → List ℕ → List ℕ → List ℕ → ℕ
+badRead σ reads target ws cls = badEntry 3 2 (readGood σ reads target ws) reads cls
 
 abbrev pub badCall : List ℕ → List ℕ → List ℕ → List ℕ → List ℕ → ℕ
 badCall calls cargs target ws cls = badEntry 4 3 (callGood calls cargs target ws) calls cls

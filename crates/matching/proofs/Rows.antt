@@ -4,6 +4,7 @@ use mathlib.Core.Path.{_≡_, refl, sym, ap, _∙_}
 use mathlib.Core.Bool.{Bool, true, false}
 use mathlib.Core.List.{List}
 use lib.ListN.{getD, set}
+use Rattle.sorts.specs.Sorts.{Sorts}
 use Rattle.answers.specs.declared.Answer.{Answer}
 use Rattle.answers.specs.declared.Answer.the-variants.{VarClass, ConstMismatch, NodeMismatch, ChainMismatch, CallMismatch}
 use Rattle.answers.specs.Answer.{isAccepted}
@@ -24,36 +25,36 @@ abbrev pub Plain : Node → Type 0
 Plain node = kindOf node ≡ core node
 
 -- where the tag is none of the four others and the row follows a rule
-viewed-plain : (nbits : ℕ) (side : List ℕ) (width : ℕ → ℕ) (i w t a b c d : ℕ) (node : Node)
+viewed-plain : (σ : Sorts) (nbits : ℕ) (side : List ℕ) (width : ℕ → ℕ) (i w t a b c d : ℕ) (node : Node)
     → (t ≡ tVar → ⊥) → (t ≡ tConst → ⊥) → (t ≡ tSelect → ⊥) → (t ≡ tCall → ⊥)
-    → Follows nbits side width i node w → View t a b c d node → Plain node
-viewed-plain nbits side width i w t a b c d node n0 n1 n37 n38 f (is-var e) = absurd (n0 e)
-viewed-plain nbits side width i w t a b c d node n0 n1 n37 n38 f (is-const e) = absurd (n1 e)
-viewed-plain nbits side width i w t a b c d node n0 n1 n37 n38 f (is-extract e) = refl
-viewed-plain nbits side width i w t a b c d node n0 n1 n37 n38 f (is-extend e) = refl
-viewed-plain nbits side width i w t a b c d node n0 n1 n37 n38 f (is-ite e) = refl
-viewed-plain nbits side width i w t a b c d node n0 n1 n37 n38 f (is-un e) = refl
-viewed-plain nbits side width i w t a b c d node n0 n1 n37 n38 f (is-select e) = absurd (n37 e)
-viewed-plain nbits side width i w t a b c d node n0 n1 n37 n38 f (is-call e) = absurd (n38 e)
-viewed-plain nbits side width i w t a b c d node n0 n1 n37 n38 f (is-bin g) = refl
-viewed-plain nbits side width i w t a b c d node n0 n1 n37 n38 f (is-unknown l) = absurd f
+    → Follows σ nbits side width i node w → View t a b c d node → Plain node
+viewed-plain σ nbits side width i w t a b c d node n0 n1 n37 n38 f (is-var e) = absurd (n0 e)
+viewed-plain σ nbits side width i w t a b c d node n0 n1 n37 n38 f (is-const e) = absurd (n1 e)
+viewed-plain σ nbits side width i w t a b c d node n0 n1 n37 n38 f (is-extract e) = refl
+viewed-plain σ nbits side width i w t a b c d node n0 n1 n37 n38 f (is-extend e) = refl
+viewed-plain σ nbits side width i w t a b c d node n0 n1 n37 n38 f (is-ite e) = refl
+viewed-plain σ nbits side width i w t a b c d node n0 n1 n37 n38 f (is-un e) = refl
+viewed-plain σ nbits side width i w t a b c d node n0 n1 n37 n38 f (is-select e) = absurd (n37 e)
+viewed-plain σ nbits side width i w t a b c d node n0 n1 n37 n38 f (is-call e) = absurd (n38 e)
+viewed-plain σ nbits side width i w t a b c d node n0 n1 n37 n38 f (is-bin g) = refl
+viewed-plain σ nbits side width i w t a b c d node n0 n1 n37 n38 f (is-unknown l) = absurd f
 
 -- the promise of a row, by its tag word
-module _ (nbits : ℕ) (side : List ℕ) (width : ℕ → ℕ) (i : ℕ) (e : List ℕ) (formed : RowFormed nbits side width i (nodeOf e)) where
+module _ {σ : Sorts} (nbits : ℕ) (side : List ℕ) (width : ℕ → ℕ) (i : ℕ) (e : List ℕ) (formed : RowFormed σ nbits side width i (nodeOf e)) where
   pub const-bits : getD e 0 0 ≡ tConst → getD e 1 0 + getD e 2 0 ≤ nbits
   const-bits h = (rw h at (formed .follows)) .1
 
   pub select-earlier : getD e 0 0 ≡ tSelect → getD e 2 0 < i
   select-earlier h = (rw h at (formed .earlier)) .0
 
-  pub select-pairs : getD e 0 0 ≡ tSelect → (l : ℕ) → l < getD e 4 0 → PairFormed 32 8 side width i (getD e 3 0) l
+  pub select-pairs : getD e 0 0 ≡ tSelect → (l : ℕ) → l < getD e 4 0 → PairFormed (σ .index (getD e 1 0)) (σ .cell (getD e 1 0)) side width i (getD e 3 0) l
   select-pairs h = (rw h at (formed .follows)) .2
 
   pub call-args : getD e 0 0 ≡ tCall → (l : ℕ) → l < getD e 4 0 → ArgFormed side i (getD e 3 0) l
   call-args h = (rw h at (formed .follows)) .1
 
-  pub plain : (getD e 0 0 ≡ tVar → ⊥) → (getD e 0 0 ≡ tConst → ⊥) → (getD e 0 0 ≡ tSelect → ⊥) → (getD e 0 0 ≡ tCall → ⊥) → Plain (nodeOf e)
-  plain n0 n1 n37 n38 = viewed-plain nbits side width i (width i) _ _ _ _ _ (nodeOf e) n0 n1 n37 n38 (formed .follows) (view-of e)
+  pub plain-row : (getD e 0 0 ≡ tVar → ⊥) → (getD e 0 0 ≡ tConst → ⊥) → (getD e 0 0 ≡ tSelect → ⊥) → (getD e 0 0 ≡ tCall → ⊥) → Plain (nodeOf e)
+  plain-row n0 n1 n37 n38 = viewed-plain σ nbits side width i (width i) _ _ _ _ _ (nodeOf e) n0 n1 n37 n38 (formed .follows) (view-of e)
 
 -- the answer and the classes of source row i, with the words e, by its tag word
 module _ (B : Binding) (N : Noted) (i r : ℕ) (e : List ℕ) (q : e ≡ rowAt Source (B .source .rows) i) where

@@ -8,6 +8,7 @@ use native.Mathlib.Decide.{decLt}
 use native.Mathlib.Omega.{arith}
 use lib.Dec.{eqb}
 use lib.ListN.{length, getD, List·getD-eq-default}
+use Rattle.sorts.specs.Sorts.{Sorts}
 use Rattle.lists.proofs.Build.{build-length, build-at, build-stay}
 use Rattle.lists.proofs.Choice.{strong}
 use Rattle.rows.specs.declared.Graph.the-variants.{Source}
@@ -19,7 +20,6 @@ use Rattle.rows.specs.Node.{nodeOf}
 use Rattle.rows.proofs.Tags.{un-tags, extend-tags}
 use Rattle.rows.proofs.View.{TagGood, node-good}
 use Rattle.encoding.proofs.Encoding.{clean}
-use Rattle.rules.specs.Rule.{cellWidth}
 use Rattle.wf.specs.Promise.{RowFormed, WellFormed}
 use Rattle.wf.specs.Widths.{illRow, widths}
 use Rattle.wf.proofs.Promise.{well-formed}
@@ -48,16 +48,16 @@ stored-fits look side x cell m (suc k) s c f =
     rest : (l : ℕ) → l < k → nat (look (getD side (s + 2 + 2 * l + 1) 0)) < m
     rest l h = let e : s + 2 * suc l + 1 ≡ s + 2 + 2 * l + 1 = omega arith in rw e at (f (suc l) (omega arith))
 
-module _ (bits side : List ℕ) (width : ℕ → ℕ) (look : ℕ → Val) (i : ℕ) (agree : (a : ℕ) → a < i → wid (look a) ≡ width a)
+module _ (σ : Sorts) (bits side : List ℕ) (width : ℕ → ℕ) (look : ℕ → Val) (i : ℕ) (agree : (a : ℕ) → a < i → wid (look a) ≡ width a)
     (fits : (a : ℕ) → Fit (look a)) (bit : (k : ℕ) → getD bits k 0 < 2) (I : Interpretation)
-    (cells : (a x : ℕ) → I .array a x < 2 ^ cellWidth a) (results : (f w : ℕ) (vs : List Val) → I .function f w vs < 2 ^ w) where
-  core : (node : Node) → TagGood node → tagOf node < 37 → RowFormed (length bits) side width i node → ((w : ℕ) → node ≡ Var w → I .variable i < 2 ^ w)
+    (cells : (a x : ℕ) → I .array a x < 2 ^ σ .cell a) (results : (f w : ℕ) (vs : List Val) → I .function f w vs < 2 ^ w) where
+  core : (node : Node) → TagGood node → tagOf node < 37 → RowFormed σ (length bits) side width i node → ((w : ℕ) → node ≡ Var w → I .variable i < 2 ^ w)
       → (wid (nodeValue bits (I .variable) look i node) ≡ width i) × Fit (nodeValue bits (I .variable) look i node)
   core node g c r v = row-formed bits side width look i agree (I .variable) node bit fits g c r v
 
   -- a row's value, where the operands before it have their widths and fit
-  node-fits : (node : Node) → TagGood node → RowFormed (length bits) side width i node → ((w : ℕ) → node ≡ Var w → I .variable i < 2 ^ w)
-      → (wid (sourceNode bits side I look i node) ≡ width i) × Fit (sourceNode bits side I look i node)
+  node-fits : (node : Node) → TagGood node → RowFormed σ (length bits) side width i node → ((w : ℕ) → node ≡ Var w → I .variable i < 2 ^ w)
+      → (wid (sourceNode σ bits side I look i node) ≡ width i) × Fit (sourceNode σ bits side I look i node)
   node-fits (Var w) g r v = core (Var w) g (omega arith) r v
   node-fits (Const s w) g r v = core (Const s w) g (omega arith) r v
   node-fits (Un t a) g r v = core (Un t a) g (un-tags (λ z. z < 37) t (omega arith) (omega arith) (omega arith) g) r v
@@ -66,9 +66,9 @@ module _ (bits side : List ℕ) (width : ℕ → ℕ) (look : ℕ → Val) (i : 
   node-fits (Extend t a n) g r v = core (Extend t a n) g (extend-tags (λ z. z < 37) t (omega arith) (omega arith) g) r v
   node-fits (Ite c t e) g r v = core (Ite c t e) g (omega arith) r v
   node-fits (Select a j s k) g r v =
-      (sym (r .follows .0), stored-fits look side (nat (look j)) (I .array a (nat (look j))) (2 ^ cellWidth a) k s (cells a (nat (look j))) pair)
+      (sym (r .follows .0), stored-fits look side (nat (look j)) (I .array a (nat (look j))) (2 ^ σ .cell a) k s (cells a (nat (look j))) pair)
     where
-      pair : (l : ℕ) → l < k → nat (look (getD side (s + 2 * l + 1) 0)) < 2 ^ cellWidth a
+      pair : (l : ℕ) → l < k → nat (look (getD side (s + 2 * l + 1) 0)) < 2 ^ σ .cell a
       pair l h =
           let p = r .follows .2 l h in
           let y = getD side (s + 2 * l + 1) 0 in
@@ -76,41 +76,41 @@ module _ (bits side : List ℕ) (width : ℕ → ℕ) (look : ℕ → Val) (i : 
   node-fits (Call f w s k) g r v = (sym (r .follows .0), results f w _)
   node-fits Unknown g r v = absurd (r .follows)
 
-module _ (bits side g ws : List ℕ) (I : Interpretation) (formed : WellFormed Source (length bits) side g ws)
-    (bit : (k : ℕ) → getD bits k 0 < 2) (kind : OfKind I g) where
+module _ (σ : Sorts) (bits side g ws : List ℕ) (I : Interpretation) (formed : WellFormed σ Source (length bits) side g ws)
+    (bit : (k : ℕ) → getD bits k 0 < 2) (kind : OfKind σ I g) where
   -- every row's value has the row's width and lies below 2 ^ width
-  pub source-formed : (i : ℕ) → i < rowCount Source g → (wid (sourceValue g bits side I i) ≡ getD ws i 0) × Fit (sourceValue g bits side I i)
+  pub source-formed : (i : ℕ) → i < rowCount Source g → (wid (sourceValue σ g bits side I i) ≡ getD ws i 0) × Fit (sourceValue σ g bits side I i)
   source-formed = strong P step
     where
       f : ℕ → List Val → Val
-      f = sourceRow g bits side I
+      f = sourceRow σ g bits side I
 
       n : ℕ
       n = rowCount Source g
 
       P : ℕ → Type 0
-      P i = i < n → (wid (sourceValue g bits side I i) ≡ getD ws i 0) × Fit (sourceValue g bits side I i)
+      P i = i < n → (wid (sourceValue σ g bits side I i) ≡ getD ws i 0) × Fit (sourceValue σ g bits side I i)
 
       step : (i : ℕ) → ((j : ℕ) → j < i → P j) → P i
       step i ih h =
           rw (build-at f (val 0 0) n i h)
-          (node-fits bits side (λ a. getD ws a 0) (λ a. getD (sourceValues g bits side I i) a (val 0 0)) i
+          (node-fits σ bits side (λ a. getD ws a 0) (λ a. getD (sourceValues σ g bits side I i) a (val 0 0)) i
           (λ a l. ap wid (sym (stay a l)) ∙ ih a l (omega arith) .0)
           (λ a. fits a (decLt a i)) bit I (kind .cells-fit) (kind .results-fit)
           (nodeOf (rowAt Source g i)) (node-good (rowAt Source g i)) (formed i h) (λ w q. kind .variables-fit i w h q))
         where
-          stay : (a : ℕ) → a < i → sourceValue g bits side I a ≡ getD (sourceValues g bits side I i) a (val 0 0)
+          stay : (a : ℕ) → a < i → sourceValue σ g bits side I a ≡ getD (sourceValues σ g bits side I i) a (val 0 0)
           stay a l = build-stay f (val 0 0) n i a l (omega arith)
 
-          fits : (a : ℕ) → Dec (a < i) → Fit (getD (sourceValues g bits side I i) a (val 0 0))
+          fits : (a : ℕ) → Dec (a < i) → Fit (getD (sourceValues σ g bits side I i) a (val 0 0))
           fits a (yes l) = subst Fit (stay a l) (ih a l (omega arith) .1)
           fits a (no l) =
-              let past : length (sourceValues g bits side I i) ≤ a = rw (build-length f i) (omega arith) in
-              rw (List·getD-eq-default (sourceValues g bits side I i) (val 0 0) past) (omega arith)
+              let past : length (sourceValues σ g bits side I i) ≤ a = rw (build-length f i) (omega arith) in
+              rw (List·getD-eq-default (sourceValues σ g bits side I i) (val 0 0) past) (omega arith)
 
 -- the same of a source that passes the tests of its bits and its form, with the widths that it then has
-pub source-fits : (bits side g : List ℕ) (I : Interpretation) → length bits ≤ badBit bits → rowCount Source g ≤ illRow Source (length bits) side g
-    → OfKind I g → (i : ℕ) → i < rowCount Source g
-    → (wid (sourceValue g bits side I i) ≡ getD (widths Source (length bits) side g) i 0) × Fit (sourceValue g bits side I i)
-source-fits bits side g I b r kind =
-    source-formed bits side g (widths Source (length bits) side g) I (well-formed Source (length bits) side g r) (clean bits b) kind
+pub source-fits : (σ : Sorts) (bits side g : List ℕ) (I : Interpretation) → length bits ≤ badBit bits → rowCount Source g ≤ illRow σ Source (length bits) side g
+    → OfKind σ I g → (i : ℕ) → i < rowCount Source g
+    → (wid (sourceValue σ g bits side I i) ≡ getD (widths σ Source (length bits) side g) i 0) × Fit (sourceValue σ g bits side I i)
+source-fits σ bits side g I b r kind =
+    source-formed σ bits side g (widths σ Source (length bits) side g) I (well-formed σ Source (length bits) side g r) (clean bits b) kind

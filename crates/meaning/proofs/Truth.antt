@@ -9,6 +9,7 @@ use borrow.Author.Tests.{eq-eqb, eqb-true}
 use lib.Dec.{eqb}
 use lib.ListN.{length, getD, List·getD-eq-default}
 use lib.Pow.{pow-pos}
+use Rattle.sorts.specs.Sorts.{Sorts, plain}
 use Rattle.lists.specs.Build.{build}
 use Rattle.lists.specs.Tests.{all}
 use Rattle.lists.proofs.Build.{build-length, build-at}
@@ -55,10 +56,10 @@ not-true values roots k h e r = no-way (sym (r k h) ∙ e)
 past : (f : ℕ → List Val → Val) (n i : ℕ) → n ≤ i → isTrue (getD (build f n) i (val 0 0)) ≡ false
 past f n i h = let l : length (build f n) ≤ i = rw (build-length f n) h in ap isTrue (List·getD-eq-default (build f n) (val 0 0) l)
 
-pub source-past : (g bits side roots : List ℕ) (k : ℕ) → k < length roots → rowCount Source g ≤ getD roots k 0
-    → SourceSatisfiable g bits side roots → ⊥
-source-past g bits side roots k h l (I, kind, r) =
-    not-true (sourceValue g bits side I) roots k h (past (sourceRow g bits side I) (rowCount Source g) (getD roots k 0) l) r
+pub source-past : (σ : Sorts) (g bits side roots : List ℕ) (k : ℕ) → k < length roots → rowCount Source g ≤ getD roots k 0
+    → SourceSatisfiable σ g bits side roots → ⊥
+source-past σ g bits side roots k h l (I, kind, r) =
+    not-true (sourceValue σ g bits side I) roots k h (past (sourceRow σ g bits side I) (rowCount Source g) (getD roots k 0) l) r
 
 pub target-past : (g bits roots : List ℕ) (k : ℕ) → k < length roots → rowCount Target g ≤ getD roots k 0 → TargetSatisfiable g bits roots → ⊥
 target-past g bits roots k h l (given, fits, r) =
@@ -72,13 +73,13 @@ ne-itself : (bits : List ℕ) (given : ℕ → ℕ) (look : ℕ → Val) (i v : 
 unfolding operate
 ne-itself bits given look i v = rw (eq-eqb (nat (look v)) (nat (look v)) refl)
 
-pub source-ne : (g bits side roots : List ℕ) (k v : ℕ) → k < length roots → getD roots k 0 < rowCount Source g
-    → nodeOf (rowAt Source g (getD roots k 0)) ≡ Bin tNe v v → SourceSatisfiable g bits side roots → ⊥
-source-ne g bits side roots k v h l e (I, kind, r) =
+pub source-ne : (σ : Sorts) (g bits side roots : List ℕ) (k v : ℕ) → k < length roots → getD roots k 0 < rowCount Source g
+    → nodeOf (rowAt Source g (getD roots k 0)) ≡ Bin tNe v v → SourceSatisfiable σ g bits side roots → ⊥
+source-ne σ g bits side roots k v h l e (I, kind, r) =
     let i = getD roots k 0 in
-    let look : ℕ → Val = λ a. getD (build (sourceRow g bits side I) i) a (val 0 0) in
-    not-true (sourceValue g bits side I) roots k h
-    (ap isTrue (build-at (sourceRow g bits side I) (val 0 0) (rowCount Source g) i l ∙ ap (sourceNode bits side I look i) e) ∙ ne-itself bits (I .variable) look i v)
+    let look : ℕ → Val = λ a. getD (build (sourceRow σ g bits side I) i) a (val 0 0) in
+    not-true (sourceValue σ g bits side I) roots k h
+    (ap isTrue (build-at (sourceRow σ g bits side I) (val 0 0) (rowCount Source g) i l ∙ ap (sourceNode σ bits side I look i) e) ∙ ne-itself bits (I .variable) look i v)
     r
 
 pub target-ne : (g bits roots : List ℕ) (k v : ℕ) → k < length roots → getD roots k 0 < rowCount Target g
@@ -98,11 +99,11 @@ abbrev source-8 : List ℕ
 source-8 = 0 ∷ 8 ∷ 0 ∷ 0 ∷ 0 ∷ []
 
 -- Var(8), roots [0]: the value 3 does not make the root true; the value 1 does, so the source is satisfiable
-three-false : RootsTrue (sourceValue source-8 [] [] (given 3)) (0 ∷ []) → ⊥
+three-false : RootsTrue (sourceValue plain source-8 [] [] (given 3)) (0 ∷ []) → ⊥
 unfolding build
-three-false = not-true (sourceValue source-8 [] [] (given 3)) (0 ∷ []) 0 (omega arith) refl
+three-false = not-true (sourceValue plain source-8 [] [] (given 3)) (0 ∷ []) 0 (omega arith) refl
 
-one-true-root : RootsTrue (sourceValue source-8 [] [] (given 1)) (0 ∷ [])
+one-true-root : RootsTrue (sourceValue plain source-8 [] [] (given 1)) (0 ∷ [])
 unfolding build
 one-true-root zero h = refl
 one-true-root (suc k) h = absurd (omega arith)
@@ -111,7 +112,7 @@ one-fits : (i w : ℕ) → i < rowCount Source source-8 → nodeOf (rowAt Source
 one-fits zero w h e = let q : _≡_ {A = ℕ} 8 w = cc in rw (← q) (omega arith)
 one-fits (suc i) w h e = absurd (omega arith)
 
-one-satisfies : SourceSatisfiable source-8 [] [] (0 ∷ [])
+one-satisfies : SourceSatisfiable plain source-8 [] [] (0 ∷ [])
 one-satisfies = (given 1, record { variables-fit = one-fits; cells-fit = λ a x. pow-pos 8; results-fit = λ f w vs. pow-pos w }, one-true-root)
 
 target-three : RootsTrue (value [] (λ i. 3) (0 ∷ 8 ∷ 0 ∷ 0 ∷ [])) (0 ∷ []) → ⊥
@@ -119,19 +120,19 @@ unfolding build
 target-three = not-true (value [] (λ i. 3) (0 ∷ 8 ∷ 0 ∷ 0 ∷ [])) (0 ∷ []) 0 (omega arith) refl
 
 -- and by the strict truth no value does
-eight-bits-false : SourceSatisfiableBy isTrueBit source-8 [] [] (0 ∷ []) → ⊥
+eight-bits-false : SourceSatisfiableBy isTrueBit plain source-8 [] [] (0 ∷ []) → ⊥
 unfolding build all
 eight-bits-false (I, kind, r) = no-way (sym (r 0 (omega arith)))
 
 -- Var(8), Ne(0, 0), roots [1]: unsatisfiable; roots [2], past the rows: unsatisfiable
-source-unsatisfiable : SourceSatisfiable (0 ∷ 8 ∷ 0 ∷ 0 ∷ 0 ∷ 20 ∷ 0 ∷ 0 ∷ 0 ∷ 0 ∷ []) [] [] (1 ∷ []) → ⊥
-source-unsatisfiable = source-ne (0 ∷ 8 ∷ 0 ∷ 0 ∷ 0 ∷ 20 ∷ 0 ∷ 0 ∷ 0 ∷ 0 ∷ []) [] [] (1 ∷ []) 0 0 (omega arith) (omega arith) refl
+source-unsatisfiable : SourceSatisfiable plain (0 ∷ 8 ∷ 0 ∷ 0 ∷ 0 ∷ 20 ∷ 0 ∷ 0 ∷ 0 ∷ 0 ∷ []) [] [] (1 ∷ []) → ⊥
+source-unsatisfiable = source-ne plain (0 ∷ 8 ∷ 0 ∷ 0 ∷ 0 ∷ 20 ∷ 0 ∷ 0 ∷ 0 ∷ 0 ∷ []) [] [] (1 ∷ []) 0 0 (omega arith) (omega arith) refl
 
 target-unsatisfiable : TargetSatisfiable (0 ∷ 8 ∷ 0 ∷ 0 ∷ 20 ∷ 0 ∷ 0 ∷ 0 ∷ []) [] (1 ∷ []) → ⊥
 target-unsatisfiable = target-ne (0 ∷ 8 ∷ 0 ∷ 0 ∷ 20 ∷ 0 ∷ 0 ∷ 0 ∷ []) [] (1 ∷ []) 0 0 (omega arith) (omega arith) refl
 
-source-root-past : SourceSatisfiable (0 ∷ 8 ∷ 0 ∷ 0 ∷ 0 ∷ 20 ∷ 0 ∷ 0 ∷ 0 ∷ 0 ∷ []) [] [] (2 ∷ []) → ⊥
-source-root-past = source-past (0 ∷ 8 ∷ 0 ∷ 0 ∷ 0 ∷ 20 ∷ 0 ∷ 0 ∷ 0 ∷ 0 ∷ []) [] [] (2 ∷ []) 0 (omega arith) (omega arith)
+source-root-past : SourceSatisfiable plain (0 ∷ 8 ∷ 0 ∷ 0 ∷ 0 ∷ 20 ∷ 0 ∷ 0 ∷ 0 ∷ 0 ∷ []) [] [] (2 ∷ []) → ⊥
+source-root-past = source-past plain (0 ∷ 8 ∷ 0 ∷ 0 ∷ 0 ∷ 20 ∷ 0 ∷ 0 ∷ 0 ∷ 0 ∷ []) [] [] (2 ∷ []) 0 (omega arith) (omega arith)
 
 target-root-past : TargetSatisfiable (0 ∷ 8 ∷ 0 ∷ 0 ∷ 20 ∷ 0 ∷ 0 ∷ 0 ∷ []) [] (2 ∷ []) → ⊥
 target-root-past = target-past (0 ∷ 8 ∷ 0 ∷ 0 ∷ 20 ∷ 0 ∷ 0 ∷ 0 ∷ []) [] (2 ∷ []) 0 (omega arith) (omega arith)

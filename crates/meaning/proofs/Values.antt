@@ -5,6 +5,7 @@ use mathlib.Core.List.{List, [], _∷_, map}
 use native.Mathlib.Omega.{arith}
 use borrow.Author.Tests.{ne-eqb, eqb-false}
 use lib.ListN.{length, getD}
+use Rattle.sorts.specs.Sorts.{Sorts}
 use Rattle.lists.proofs.Build.{build-at, build-stay}
 use Rattle.lists.proofs.Choice.{strong}
 use Rattle.lists.proofs.Tests.{tabulate-same}
@@ -16,7 +17,6 @@ use Rattle.rows.specs.Tags.{tVar, isUn, isExtend}
 use Rattle.rows.specs.Node.{nodeOf, operands}
 use Rattle.rows.proofs.Tags.{un-tags, extend-tags}
 use Rattle.rows.proofs.View.{TagGood, node-good}
-use Rattle.rules.specs.Rule.{indexWidth, cellWidth}
 use Rattle.wf.specs.Promise.{Below, PairFormed, RowFormed, WellFormed}
 use Rattle.value.specs.Val.{Val, val, wid}
 use Rattle.value.specs.Operate.{tagOf}
@@ -66,8 +66,8 @@ module _ (look see : ℕ → Val) (i : ℕ) (same : (a : ℕ) → a < i → look
   stored-look iw cw width side x cell (suc k) s p =
       rw (same _ (p .0), same _ (p .2), stored-look iw cw width side x cell k (s + 2) (p .4))
 
-  source-look : (bits side : List ℕ) (I : Interpretation) (width : ℕ → ℕ) (node : Node) → RowFormed (length bits) side width i node
-      → sourceNode bits side I look i node ≡ sourceNode bits side I see i node
+  source-look : {σ : Sorts} (bits side : List ℕ) (I : Interpretation) (width : ℕ → ℕ) (node : Node) → RowFormed σ (length bits) side width i node
+      → sourceNode σ bits side I look i node ≡ sourceNode σ bits side I see i node
   source-look bits side I width (Var w) r = refl
   source-look bits side I width (Const s w) r = refl
   source-look bits side I width (Un t a) r = node-look bits (I .variable) (Un t a) (r .earlier)
@@ -75,12 +75,12 @@ module _ (look see : ℕ → Val) (i : ℕ) (same : (a : ℕ) → a < i → look
   source-look bits side I width (Extract h l a) r = node-look bits (I .variable) (Extract h l a) (r .earlier)
   source-look bits side I width (Extend t a n) r = node-look bits (I .variable) (Extend t a n) (r .earlier)
   source-look bits side I width (Ite c t e) r = node-look bits (I .variable) (Ite c t e) (r .earlier)
-  source-look bits side I width (Select a j s k) r =
-      rw (same j (r .earlier .0)) (ap (val (cellWidth a)) (stored-look (indexWidth a) (cellWidth a) width side _ _ k s (pairs-formed (indexWidth a) (cellWidth a) width i side k s (r .follows .2))))
+  source-look {σ = σ} bits side I width (Select a j s k) r =
+      rw (same j (r .earlier .0)) (ap (val (σ .cell a)) (stored-look (σ .index a) (σ .cell a) width side _ _ k s (pairs-formed (σ .index a) (σ .cell a) width i side k s (r .follows .2))))
   source-look bits side I width (Call f w s k) r = ap (λ (vs : List Val). val w (I .function f w vs)) (tabulate-same _ _ k (λ l h. same _ (r .follows .1 l h .arg-earlier)))
   source-look bits side I width Unknown r = refl
 
-module _ (bits side g ws : List ℕ) (given : ℕ → ℕ) (formed : WellFormed Target (length bits) side g ws) where
+module _ {σ : Sorts} (bits side g ws : List ℕ) (given : ℕ → ℕ) (formed : WellFormed σ Target (length bits) side g ws) where
   pub target-value : (r : ℕ) → r < rowCount Target g
       → value bits given g r ≡ nodeValue bits given (value bits given g) r (nodeOf (rowAt Target g r))
   target-value r h =
@@ -88,33 +88,33 @@ module _ (bits side g ws : List ℕ) (given : ℕ → ℕ) (formed : WellFormed 
       build-at f (val 0 0) (rowCount Target g) r h
       ∙ sym (node-look _ _ r (λ a l. build-stay f (val 0 0) (rowCount Target g) r a l (omega arith)) bits given (nodeOf (rowAt Target g r)) (formed r h .earlier))
 
-module _ (bits side g ws : List ℕ) (I : Interpretation) (formed : WellFormed Source (length bits) side g ws) where
+module _ {σ : Sorts} (bits side g ws : List ℕ) (I : Interpretation) (formed : WellFormed σ Source (length bits) side g ws) where
   pub source-value : (i : ℕ) → i < rowCount Source g
-      → sourceValue g bits side I i ≡ sourceNode bits side I (sourceValue g bits side I) i (nodeOf (rowAt Source g i))
+      → sourceValue σ g bits side I i ≡ sourceNode σ bits side I (sourceValue σ g bits side I) i (nodeOf (rowAt Source g i))
   source-value i h =
-      let f = sourceRow g bits side I in
+      let f = sourceRow σ g bits side I in
       build-at f (val 0 0) (rowCount Source g) i h
       ∙ sym (source-look _ _ i (λ a l. build-stay f (val 0 0) (rowCount Source g) i a l (omega arith)) bits side I (λ a. getD ws a 0) (nodeOf (rowAt Source g i)) (formed i h))
 
   -- a source value has its row's width
-  pub source-width : (i : ℕ) → i < rowCount Source g → wid (sourceValue g bits side I i) ≡ getD ws i 0
+  pub source-width : (i : ℕ) → i < rowCount Source g → wid (sourceValue σ g bits side I i) ≡ getD ws i 0
   source-width = strong P (λ i ih h. ap wid (source-value i h) ∙ step i (nodeOf (rowAt Source g i)) (node-good (rowAt Source g i)) (λ a l. ih a l (omega arith)) (formed i h))
     where
       P : ℕ → Type 0
-      P i = i < rowCount Source g → wid (sourceValue g bits side I i) ≡ getD ws i 0
+      P i = i < rowCount Source g → wid (sourceValue σ g bits side I i) ≡ getD ws i 0
 
       look : ℕ → Val
-      look = sourceValue g bits side I
+      look = sourceValue σ g bits side I
 
       width : ℕ → ℕ
       width a = getD ws a 0
 
       core : (i : ℕ) (node : Node) → TagGood node → tagOf node < 37 → (tagOf node ≡ tVar → ⊥) → ((a : ℕ) → a < i → wid (look a) ≡ width a)
-          → RowFormed (length bits) side width i node → wid (nodeValue bits (I .variable) look i node) ≡ width i
+          → RowFormed σ (length bits) side width i node → wid (nodeValue bits (I .variable) look i node) ≡ width i
       core i node t c v ih r = rw (ne-eqb (tagOf node) tVar v) (core-width bits side width look i ih node t c v r)
 
-      step : (i : ℕ) (node : Node) → TagGood node → ((a : ℕ) → a < i → wid (look a) ≡ width a) → RowFormed (length bits) side width i node
-          → wid (sourceNode bits side I look i node) ≡ width i
+      step : (i : ℕ) (node : Node) → TagGood node → ((a : ℕ) → a < i → wid (look a) ≡ width a) → RowFormed σ (length bits) side width i node
+          → wid (sourceNode σ bits side I look i node) ≡ width i
       step i (Var w) t ih r = sym (r .follows)
       step i (Const s w) t ih r = core i (Const s w) t (omega arith) (λ z. omega arith) ih r
       step i (Un k a) t ih r = core i (Un k a) t (un-tags (λ z. z < 37) k (omega arith) (omega arith) (omega arith) t) (eqb-false k tVar (apart isUn tVar k refl t)) ih r

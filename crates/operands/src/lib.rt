@@ -2,10 +2,10 @@
 // The fields that it does not use are 0, which is looked at here because its operands tell which they are.
 ghost use mathlib.Core.Path.{_≡_};
 ghost use lib.ListN.{getD};
+ghost use Rattle.sorts.specs.Sorts.{edition, sortsOf};
+ghost use Rattle.sorts.specs.Good.{Good};
 ghost use Rattle.rules.specs.Table.{rowAny, rowInBits, rowArguments, row0, rowOne, rowExtended, row1, rowPart, row2, row3, rowChain};
 ghost use Rattle.rules.specs.Table.{listedWidth, coreWidth, lineWidth};
-use rules::CELL_WIDTH;
-use rules::INDEX_WIDTH;
 use rules::join;
 use rules::lines::Line;
 use rules::operand;
@@ -159,18 +159,19 @@ fn three_rows(rule: u8, from: u8, ws: &[u64], x: u64, y: u64, z: u64, f4: u64) -
     rules::width3(rule, from, ws[i], ws[j], ws[k])
 }
 
-// An index in row x, and k pairs from s on in the side list; all fields are in use.
+// An index of iw bits in row x, and k pairs from s on in the side list, their cells of cw bits; all fields are in use.
 fn chain_row(
     rule: u8,
     from: u8,
+    iw: u64,
+    cw: u64,
     ws: &[u64],
     side: &[u64],
-    array: u64,
     x: u64,
     s: u64,
     k: u64,
 ) -> u64
-    ensures width { λ r. ⌜ r ≡ rowChain rule from (now (side .entry)) (now (ws .entry)) array x s k ⌝ }
+    ensures width { λ r. ⌜ r ≡ rowChain rule from iw cw (now (side .entry)) (now (ws .entry)) x s k ⌝ }
 {
     if rule != join::CHAIN {
         return 0;
@@ -178,11 +179,11 @@ fn chain_row(
     if ws.len() as u64 <= x {
         return 0;
     }
-    if !sides::chain_wf(ws, side, s, k, INDEX_WIDTH, CELL_WIDTH) {
+    if !sides::chain_wf(ws, side, s, k, iw, cw) {
         return 0;
     }
     let i = x as usize;
-    rules::width_index(from, array, ws[i])
+    rules::width_index(from, iw, cw, ws[i])
 }
 
 // Rows that can have a side list.
@@ -194,15 +195,18 @@ fn listed_width(
     f3: u64,
     f4: u64,
     side: &[u64],
+    second: bool,
+    sorts: &[u64],
     ws: &[u64],
 ) -> u64
-    ensures width { λ w. ⌜ w ≡ listedWidth nbits (now (side .entry)) (now (ws .entry)) line f1 f2 f3 f4 ⌝ }
+    requires { ⌜ Good (edition second (now sorts)) ⌝ }
+    ensures width { λ w. ⌜ w ≡ listedWidth (sortsOf (edition second (now (sorts .entry)))) nbits (now (side .entry)) (now (ws .entry)) line f1 f2 f3 f4 ⌝ }
 {
     if line.0 == operand::NONE {
-        no_row(line, nbits, f1, f2, f3, f4, ws, side)
-    } else {
-        chain_row(line.1, line.2, ws, side, f1, f2, f3, f4)
+        return no_row(line, nbits, f1, f2, f3, f4, ws, side);
     }
+    let sort = sorts::sort_of(second, sorts, f1);
+    chain_row(line.1, line.2, sort.index, sort.cell, ws, side, f2, f3, f4)
 }
 
 // The others; the last arm but one is looked at first.
@@ -219,11 +223,21 @@ fn core_width(line: Line, f1: u64, f2: u64, f3: u64, f4: u64, ws: &[u64]) -> u64
 }
 
 // The width that a line gives a row after rows of widths ws, or 0 where it is ill-formed or a field that it does not use is not 0.
-pub fn line_width(line: Line, r: [u64; 5], nbits: u64, side: &[u64], ws: &[u64]) -> u64
-    ensures width { λ w. ⌜ w ≡ lineWidth nbits (now (side .entry)) (now (ws .entry)) line (getD r 1 0) (getD r 2 0) (getD r 3 0) (getD r 4 0) ⌝ }
+pub fn line_width(
+    line: Line,
+    r: [u64; 5],
+    nbits: u64,
+    side: &[u64],
+    second: bool,
+    sorts: &[u64],
+    ws: &[u64],
+) -> u64
+    requires { ⌜ Good (edition second (now sorts)) ⌝ }
+    ensures width { λ w. ⌜ w ≡ lineWidth (sortsOf (edition second (now (sorts .entry)))) nbits (now (side .entry)) (now (ws .entry)) line
+        (getD r 1 0) (getD r 2 0) (getD r 3 0) (getD r 4 0) ⌝ }
 {
     if line.0 < operand::FIELD1 {
-        listed_width(line, nbits, r[1], r[2], r[3], r[4], side, ws)
+        listed_width(line, nbits, r[1], r[2], r[3], r[4], side, second, sorts, ws)
     } else {
         core_width(line, r[1], r[2], r[3], r[4], ws)
     }

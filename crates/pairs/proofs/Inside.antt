@@ -7,6 +7,7 @@ use native.Mathlib.Omega.{arith}
 use borrow.Author.Tests.{leb-true, ltb-true}
 use lib.Dec.{eqb}
 use lib.ListN.{length}
+use Rattle.sorts.specs.Sorts.{Sorts}
 use Rattle.lists.proofs.Choice.{both}
 use Rattle.lists.proofs.Tests.{all-true}
 use Rattle.rows.specs.declared.Graph.the-variants.{Target}
@@ -16,10 +17,10 @@ use Rattle.lowering.specs.Roots.{Pair, badCong}
 use Rattle.pairs.specs.Walk.{walked, ReadsIn}
 
 -- every entry is good, by the widths of the target's rows and the classes before it
-pub reads-in : (reads target ws : List ℕ) (cls : ℕ → List ℕ) → length ws ≤ rowCount Target target
-    → ((k : ℕ) → k < readCount reads → readGood reads target ws (cls k) k ≡ true) → ReadsIn reads target
+pub reads-in : (σ : Sorts) (reads target ws : List ℕ) (cls : ℕ → List ℕ) → length ws ≤ rowCount Target target
+    → ((k : ℕ) → k < readCount reads → readGood σ reads target ws (cls k) k ≡ true) → ReadsIn reads target
 unfolding readGood
-reads-in reads target ws cls n good k h =
+reads-in σ reads target ws cls n good k h =
     let (a, (b, (c, (d, (e, _))))) = all-true _ (good k h) in
     let i : readIndex reads k < length ws = ltb-true _ _ (both _ _ e .0) in
     (leb-true _ _ a, omega arith)

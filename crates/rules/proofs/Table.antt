@@ -7,6 +7,7 @@ use mathlib.Core.List.{List, [], _∷_}
 use native.Mathlib.Nat.{not-suc-le-zero, le-of-suc-le-suc, add-zero, add-suc, suc-add, zero-add}
 use lib.ListN.{length, getD}
 use Rattle.rows.specs.Node.{nodeFrom, operands}
+use Rattle.sorts.specs.Sorts.{Sorts}
 use Rattle.encoding.specs.Encoding.{fieldCount, fieldsGood}
 use Rattle.rules.specs.declared.lines.Line.{Line}
 use Rattle.rules.specs.Rule.{capped, rule, earlier, nodeWidth}
@@ -30,14 +31,14 @@ along-same : {A : Type 0} (f g : ℕ → A → ℕ) (d : A) (xs : List A) → al
 along-same f g d xs e k h =
     rw zero-add at (sym (along-at f d xs 0 k h) ∙ ap (λ (l : List ℕ). getD l k 0) e ∙ along-at g d xs 0 k h)
 
-module _ (nbits : ℕ) (side ws : List ℕ) (a b c d : ℕ) where
+module _ (σ : Sorts) (nbits : ℕ) (side ws : List ℕ) (a b c d : ℕ) where
   by-line : ℕ → Line → ℕ
-  by-line t l = lineWidth nbits side ws l a b c d
+  by-line t l = lineWidth σ nbits side ws l a b c d
 
   by-rule : ℕ → Line → ℕ
   by-rule t l =
       let node = nodeFrom t a b c d in
-      cond (fieldsGood (fieldCount t) b c d) (cond (earlier (operands node) (length ws)) (inWord (rule nbits side ws node)) 0) 0
+      cond (fieldsGood (fieldCount t) b c d) (cond (earlier (operands node) (length ws)) (inWord (rule σ nbits side ws node)) 0) 0
 
   -- the whole table: what its lines give is what the rules give
   whole : along by-line 0 table ≡ along by-rule 0 table
@@ -46,9 +47,9 @@ module _ (nbits : ℕ) (side ws : List ℕ) (a b c d : ℕ) where
 
   -- a line is its tag's rule, of rows whose unused fields are 0, within the ceiling
   pub line-rule : (t : ℕ) → t < 39
-      → capped (lineWidth nbits side ws (lineAt t) a b c d) ≡ cond (fieldsGood (fieldCount t) b c d) (nodeWidth nbits side ws (nodeFrom t a b c d)) 0
+      → capped (lineWidth σ nbits side ws (lineAt t) a b c d) ≡ cond (fieldsGood (fieldCount t) b c d) (nodeWidth σ nbits side ws (nodeFrom t a b c d)) 0
   unfolding by-line by-rule
   line-rule t h =
       let node = nodeFrom t a b c d in
       ap capped (along-same by-line by-rule (lineAt 39) table whole t h)
-      ∙ capped-tested (fieldsGood (fieldCount t) b c d) (earlier (operands node) (length ws)) (rule nbits side ws node)
+      ∙ capped-tested (fieldsGood (fieldCount t) b c d) (earlier (operands node) (length ws)) (rule σ nbits side ws node)

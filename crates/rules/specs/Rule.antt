@@ -7,6 +7,7 @@ use mathlib.Core.List.{List, [], _∷_}
 use lib.Dec.{eqb, ltb, leb}
 use lib.ListN.{length, getD}
 use Rattle.lists.specs.First.{none}
+use Rattle.sorts.specs.Sorts.{Sorts}
 use Rattle.rows.specs.declared.Node.{Node}
 use Rattle.rows.specs.declared.Node.the-variants.{Var, Const, Un, Bin, Extract, Extend, Ite, Select, Call, Unknown}
 use Rattle.rows.specs.Tags.{tConcat, tNot, isBool, isCompare}
@@ -18,13 +19,6 @@ ceiling = 4096
 
 abbrev pub capped : ℕ → ℕ
 capped w = cond (leb w ceiling) w 0
-
--- "Select needs an index of width 32 and, per pair in the side list, an index row of width 32 and a value row of width 8; its width is 8"
-abbrev pub indexWidth : ℕ → ℕ
-indexWidth array = 32
-
-abbrev pub cellWidth : ℕ → ℕ
-cellWidth array = 8
 
 -- w where the two widths are one
 abbrev pub same : ℕ → ℕ → ℕ → ℕ
@@ -71,21 +65,23 @@ chainGood iw cw ws side s k = entriesGood 2 (pairBad iw cw ws side s) side s k
 abbrev pub argsGood : List ℕ → List ℕ → ℕ → ℕ → Bool
 argsGood ws side s k = entriesGood 1 (argBad (length ws) side s) side s k
 
+-- "Select needs an index of width [the array's] and, per pair in the side list, an index row of [that width] and a value row of width [its cell's]; its
+-- width is [that]"
 abbrev pub selectWidth : ℕ → ℕ → List ℕ → List ℕ → ℕ → ℕ → ℕ → ℕ
 selectWidth iw cw ws side j s k = cond (eqb (getD ws j 0) iw) (cond (chainGood iw cw ws side s k) cw 0) 0
 
--- the rule of a node over the widths of earlier rows
-abbrev pub rule : ℕ → List ℕ → List ℕ → Node → ℕ
-rule nbits side ws (Var w) = w
-rule nbits side ws (Const s w) = constWidth nbits s w
-rule nbits side ws (Un t a) = unWidth t (getD ws a 0)
-rule nbits side ws (Bin t a b) = binWidth t (getD ws a 0) (getD ws b 0)
-rule nbits side ws (Extract high low a) = extractWidth high low (getD ws a 0)
-rule nbits side ws (Extend t a n) = getD ws a 0 + n
-rule nbits side ws (Ite c t e) = iteWidth (getD ws c 0) (getD ws t 0) (getD ws e 0)
-rule nbits side ws (Select array j s k) = selectWidth (indexWidth array) (cellWidth array) ws side j s k
-rule nbits side ws (Call f w s k) = cond (argsGood ws side s k) w 0
-rule nbits side ws Unknown = 0
+-- the rule of a node over the arrays' sorts and the widths of earlier rows
+abbrev pub rule : Sorts → ℕ → List ℕ → List ℕ → Node → ℕ
+rule σ nbits side ws (Var w) = w
+rule σ nbits side ws (Const s w) = constWidth nbits s w
+rule σ nbits side ws (Un t a) = unWidth t (getD ws a 0)
+rule σ nbits side ws (Bin t a b) = binWidth t (getD ws a 0) (getD ws b 0)
+rule σ nbits side ws (Extract high low a) = extractWidth high low (getD ws a 0)
+rule σ nbits side ws (Extend t a n) = getD ws a 0 + n
+rule σ nbits side ws (Ite c t e) = iteWidth (getD ws c 0) (getD ws t 0) (getD ws e 0)
+rule σ nbits side ws (Select array j s k) = selectWidth (σ .index array) (σ .cell array) ws side j s k
+rule σ nbits side ws (Call f w s k) = cond (argsGood ws side s k) w 0
+rule σ nbits side ws Unknown = 0
 
 -- every operand is an earlier row
 abbrev pub earlier : List ℕ → ℕ → Bool
@@ -93,5 +89,5 @@ earlier [] n = true
 earlier (a ∷ more) n = cond (ltb a n) (earlier more n) false
 
 -- the width of a node after rows of widths ws, or 0
-abbrev pub nodeWidth : ℕ → List ℕ → List ℕ → Node → ℕ
-nodeWidth nbits side ws node = cond (earlier (operands node) (length ws)) (capped (rule nbits side ws node)) 0
+abbrev pub nodeWidth : Sorts → ℕ → List ℕ → List ℕ → Node → ℕ
+nodeWidth σ nbits side ws node = cond (earlier (operands node) (length ws)) (capped (rule σ nbits side ws node)) 0

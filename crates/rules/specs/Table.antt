@@ -8,9 +8,10 @@ use mathlib.Core.List.{List, [], _∷_}
 use lib.Dec.{eqb, ltb, leb}
 use lib.ListN.{length, getD}
 use Rattle.rows.specs.Row.{MAX}
+use Rattle.sorts.specs.Sorts.{Sorts}
 use Rattle.encoding.specs.Encoding.{fieldsGood}
 use Rattle.rules.specs.declared.lines.Line.{Line}
-use Rattle.rules.specs.Rule.{indexWidth, cellWidth, same, chainGood, argsGood, earlier}
+use Rattle.rules.specs.Rule.{same, chainGood, argsGood, earlier}
 
 -- how many operands, side lists aside, and where they stand: none; one, in field 2, 1 or 3; two, in fields 1 and 2; three
 abbrev pub oNone : ℕ
@@ -159,12 +160,12 @@ joinPart rule high low a w = cond (eqb rule jPart) (inPart high low a w) 0
 abbrev pub fromPart : ℕ → ℕ → ℕ → ℕ
 fromPart source high low = cond (eqb source sPart) (high - low + 1) 0
 
--- one, in field 2, the index of an array
+-- one, in field 2, the index of an array of index width iw and cell width cw
 abbrev pub joinIndex : ℕ → ℕ → ℕ → ℕ
-joinIndex array a w = same a (indexWidth array) w
+joinIndex iw a w = same a iw w
 
 abbrev pub fromCell : ℕ → ℕ → ℕ
-fromCell source array = cond (eqb source sCell) (cellWidth array) 0
+fromCell source cw = cond (eqb source sCell) cw 0
 
 -- two, in fields 1 and 2
 abbrev pub join2 : ℕ → ℕ → ℕ → ℕ → ℕ
@@ -213,11 +214,11 @@ rowExtended rule ws x f2 f3 f4 =
 abbrev pub row1 : ℕ → ℕ → List ℕ → ℕ → ℕ → ℕ → ℕ → ℕ
 row1 rule source ws x f2 f3 f4 = cond (eqb source sExtended) (rowExtended rule ws x f2 f3 f4) (rowOne rule source ws x f2 f3 f4)
 
--- one, in field 2, the index of an array, and k pairs from s on in the side list; all fields are in use
-abbrev pub rowChain : ℕ → ℕ → List ℕ → List ℕ → ℕ → ℕ → ℕ → ℕ → ℕ
-rowChain rule source side ws array x s k =
-    let w = cond (chainGood (indexWidth array) (cellWidth array) ws side s k) (fromCell source array) 0 in
-    cond (eqb rule jChain) (cond (earlier (x ∷ []) (length ws)) (inWord (joinIndex array (getD ws x 0) w)) 0) 0
+-- one, in field 2, the index of such an array, and k pairs from s on in the side list; all fields are in use
+abbrev pub rowChain : ℕ → ℕ → ℕ → ℕ → List ℕ → List ℕ → ℕ → ℕ → ℕ → ℕ
+rowChain rule source iw cw side ws x s k =
+    let w = cond (chainGood iw cw ws side s k) (fromCell source cw) 0 in
+    cond (eqb rule jChain) (cond (earlier (x ∷ []) (length ws)) (inWord (joinIndex iw (getD ws x 0) w)) 0) 0
 
 -- one, in field 3
 abbrev pub rowPart : ℕ → ℕ → List ℕ → ℕ → ℕ → ℕ → ℕ → ℕ
@@ -240,9 +241,9 @@ row3 rule source ws x y z f4 =
     (cond (earlier (x ∷ y ∷ z ∷ []) (length ws)) (inWord (join3 rule (getD ws x 0) b (getD ws z 0) (from3 source b))) 0) 0
 
 -- the width that a line gives a row of these fields, or 0: where a side list can be, and where none can
-abbrev pub listedWidth : ℕ → List ℕ → List ℕ → Line → ℕ → ℕ → ℕ → ℕ → ℕ
-listedWidth nbits side ws l f1 f2 f3 f4 =
-    cond (eqb (l .0) oNone) (row0 (l .1) (l .2) nbits side ws f1 f2 f3 f4) (rowChain (l .1) (l .2) side ws f1 f2 f3 f4)
+abbrev pub listedWidth : Sorts → ℕ → List ℕ → List ℕ → Line → ℕ → ℕ → ℕ → ℕ → ℕ
+listedWidth σ nbits side ws l f1 f2 f3 f4 =
+    cond (eqb (l .0) oNone) (row0 (l .1) (l .2) nbits side ws f1 f2 f3 f4) (rowChain (l .1) (l .2) (σ .index f1) (σ .cell f1) side ws f2 f3 f4)
 
 abbrev pub coreWidth : List ℕ → Line → ℕ → ℕ → ℕ → ℕ → ℕ
 coreWidth ws l f1 f2 f3 f4 =
@@ -250,6 +251,6 @@ coreWidth ws l f1 f2 f3 f4 =
     (cond (eqb (l .0) oField1) (row1 (l .1) (l .2) ws f1 f2 f3 f4)
     (cond (eqb (l .0) oTwo) (row2 (l .1) (l .2) ws f1 f2 f3 f4) (row3 (l .1) (l .2) ws f1 f2 f3 f4)))
 
-abbrev pub lineWidth : ℕ → List ℕ → List ℕ → Line → ℕ → ℕ → ℕ → ℕ → ℕ
-lineWidth nbits side ws l f1 f2 f3 f4 =
-    cond (ltb (l .0) oField1) (listedWidth nbits side ws l f1 f2 f3 f4) (coreWidth ws l f1 f2 f3 f4)
+abbrev pub lineWidth : Sorts → ℕ → List ℕ → List ℕ → Line → ℕ → ℕ → ℕ → ℕ → ℕ
+lineWidth σ nbits side ws l f1 f2 f3 f4 =
+    cond (ltb (l .0) oField1) (listedWidth σ nbits side ws l f1 f2 f3 f4) (coreWidth ws l f1 f2 f3 f4)

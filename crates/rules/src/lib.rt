@@ -12,11 +12,6 @@ pub mod lines;
 pub mod operand;
 pub mod source;
 
-// The widths of a Select's index and of an array's cell.
-pub const INDEX_WIDTH: u64 = 32;
-
-pub const CELL_WIDTH: u64 = 8;
-
 // The sum of two widths, or 0 where it is no word.
 fn sum_width(a: u64, b: u64) -> u64
     ensures width { λ r. ⌜ r ≡ inWord (a + b) ⌝ }
@@ -128,14 +123,15 @@ pub fn width_part(rule: u8, from: u8, high: u64, low: u64, a: u64) -> u64
     }
 }
 
-// With one operand in field 2, an array's index. Its rule is join::CHAIN, which the caller has looked at.
-pub fn width_index(from: u8, array: u64, a: u64) -> u64
-    ensures width { λ r. ⌜ r ≡ inWord (joinIndex array a (fromCell from array)) ⌝ }
+// With one operand in field 2, the index of an array whose index has iw bits and whose cells have cw. Its rule is join::CHAIN, which the caller has
+// looked at.
+pub fn width_index(from: u8, iw: u64, cw: u64, a: u64) -> u64
+    ensures width { λ r. ⌜ r ≡ inWord (joinIndex iw a (fromCell from cw)) ⌝ }
 {
-    if a != INDEX_WIDTH {
+    if a != iw {
         return 0;
     }
-    if from == source::CELL { CELL_WIDTH } else { 0 }
+    if from == source::CELL { cw } else { 0 }
 }
 
 // The same with two operands of one width a, then of widths a and b.

@@ -9,13 +9,12 @@ use lib.ListN.{length, getD, List·getD-append}
 use lib.Pow.{pow-pos}
 use Rattle.answers.specs.declared.Answer.{Answer}
 use Rattle.answers.specs.Answer.{isAccepted, lent}
-use Rattle.rules.specs.Rule.{cellWidth}
 use Rattle.value.specs.Graph.{Assigns}
 use Rattle.meaning.specs.Meaning.{Interpretation, OfKind}
 use Rattle.rows.specs.Row.{MAX}
 use Rattle.rows.specs.Tags.{either}
 use Rattle.lowering.specs.Images.{mapAt}
-use Rattle.lowering.specs.Lowering.{Lowering, sourceRows, targetRows}
+use Rattle.lowering.specs.Lowering.{arraySorts, Lowering, sourceRows, targetRows}
 use Rattle.soundness.specs.Sound.{ImagesAgree, SourceTrue, TargetTrue}
 use Rattle.soundness.specs.Transfer.{assignment, interpretation}
 use Rattle.soundness.specs.Choices.{MappedVar, classesLeft, AgreesOnMapped, AgreesOnImages, AgreesOnUnmapped, AgreesOnClassZero}
@@ -40,8 +39,8 @@ module _ (L : Lowering) where
   pub zeros-fit : Assigns zeros (L .target .rows)
   zeros-fit r w h e = pow-pos w
 
-  pub zero-fits : OfKind zero-interpretation (L .source .rows)
-  zero-fits = record { variables-fit = λ i w h e. pow-pos w; cells-fit = λ a x. pow-pos (cellWidth a); results-fit = λ f w vs. pow-pos w }
+  pub zero-fits : OfKind (arraySorts L) zero-interpretation (L .source .rows)
+  zero-fits = record { variables-fit = λ i w h e. pow-pos w; cells-fit = λ a x. pow-pos (arraySorts L .cell a); results-fit = λ f w vs. pow-pos w }
 
 module _ (L : Lowering) (slice : length (L .target .rows) ≤ MAX) (tests : Passed L) where
   small : targetRows L ≤ MAX
@@ -69,7 +68,7 @@ module _ (L : Lowering) (slice : length (L .target .rows) ≤ MAX) (tests : Pass
       let fits = assignment-fits L graphs facts I given kinds free in
       ((fits, forward-roots L graphs facts I given fits roots), λ i (h, k). let w = within L tests i h k in (w, forward-agree L graphs facts I given fits i (h, w)))
 
-  pub passed-backward : (A : ℕ → ℕ) (J : Interpretation) → OfKind J (L .source .rows) → TargetTrue L A
+  pub passed-backward : (A : ℕ → ℕ) (J : Interpretation) → OfKind (arraySorts L) J (L .source .rows) → TargetTrue L A
       → SourceTrue L (interpretation L A J) × ImagesAgree L (interpretation L A J) A
   passed-backward A J free (fits, roots) = (
     (interpretation-fits L graphs facts A fits J free, backward-roots L graphs facts A fits J roots),

@@ -20,7 +20,6 @@ use Rattle.rows.specs.declared.Node.the-variants.{Var, Const, Un, Bin, Extract,
 use Rattle.rows.specs.Row.{rowAt}
 use Rattle.rows.specs.Tags.{tConst, tEq}
 use Rattle.rows.specs.Node.{operands}
-use Rattle.rules.specs.Rule.{indexWidth, cellWidth}
 use Rattle.wf.specs.Promise.{Below, RowFormed}
 use Rattle.value.specs.Val.{Val, val, wid, nat}
 use Rattle.value.specs.Operate.{operate, constNumber}
@@ -30,7 +29,7 @@ use Rattle.lowering.specs.declared.Walk.{Walk}
 use Rattle.lowering.specs.declared.Walk.the-variants.{Met, Lost}
 use Rattle.lowering.specs.Images.{fieldAt, bothConst, sameConst}
 use Rattle.lowering.specs.Matching.{isLevel, walk}
-use Rattle.lowering.specs.Lowering.{Lowering, sourceRows, targetRows}
+use Rattle.lowering.specs.Lowering.{arraySorts, Lowering, sourceRows, targetRows}
 use Rattle.lowering.specs.Check.{widthsOfSource}
 use Rattle.lowering.proofs.Images.{const-row, both-const, eq-row}
 use Rattle.soundness.specs.Sound.{valueOfSource}
@@ -82,10 +81,10 @@ module _ (L : Lowering) (F : Formed L) (M : Matched L) (I : Interpretation) (A :
   LeafCall = (q r f i w k : ℕ) (xs : ℕ → ℕ) → CallOf L q r f k (λ l. m L (xs l)) → T L r ≡ Var w → ((l : ℕ) → l < k → xs l < i) → i < sourceRows L
       → ((j : ℕ) → j < i → Agree j) → I .function f w (tabulate (λ l. sv (xs l)) k) ≡ A r
 
-  node-value : (i : ℕ) (node : Node) → i < sourceRows L → S L i ≡ node → sv i ≡ sourceNode (L .source .bits) (L .source .side) I sv i node
-  node-value i node h e = source-value (L .source .bits) (L .source .side) (L .source .rows) (widthsOfSource L) I (F .source-formed) i h ∙ ap (sourceNode (L .source .bits) (L .source .side) I sv i) e
+  node-value : (i : ℕ) (node : Node) → i < sourceRows L → S L i ≡ node → sv i ≡ sourceNode (arraySorts L) (L .source .bits) (L .source .side) I sv i node
+  node-value i node h e = source-value (L .source .bits) (L .source .side) (L .source .rows) (widthsOfSource L) I (F .source-formed) i h ∙ ap (sourceNode (arraySorts L) (L .source .bits) (L .source .side) I sv i) e
 
-  node-formed : (i : ℕ) (node : Node) → i < sourceRows L → S L i ≡ node → RowFormed (length (L .source .bits)) (L .source .side) sw i node
+  node-formed : (i : ℕ) (node : Node) → i < sourceRows L → S L i ≡ node → RowFormed (arraySorts L) (length (L .source .bits)) (L .source .side) sw i node
   node-formed i node h e = rw e at (F .source-formed i h)
 
   -- operands and their images
@@ -112,15 +111,15 @@ module _ (L : Lowering) (F : Formed L) (M : Matched L) (I : Interpretation) (A :
   const-width i h e = node-formed i _ h (const-row (rowAt Source (L .source .rows) i) e) .follows .0
 
   -- the walk along a Select's pairs: from row r on, it computes what the pairs from s on store, else the cell
-  walk-agree : LeafRead → (i a j : ℕ) → ((x : ℕ) → x < i → Agree x) → i < sourceRows L → j < i → sw j ≡ indexWidth a
-      → (k s r : ℕ) → Pairs (indexWidth a) (cellWidth a) sw i (L .source .side) k s → r < targetRows L → Ends L a j (walkOf L j k s r)
-      → (nat (tv′ r) ≡ stored sv (L .source .side) (nat (sv j)) (I .array a (nat (sv j))) k s) × (wid (tv′ r) ≡ cellWidth a)
+  walk-agree : LeafRead → (i a j : ℕ) → ((x : ℕ) → x < i → Agree x) → i < sourceRows L → j < i → sw j ≡ arraySorts L .index a
+      → (k s r : ℕ) → Pairs (arraySorts L .index a) (arraySorts L .cell a) sw i (L .source .side) k s → r < targetRows L → Ends L a j (walkOf L j k s r)
+      → (nat (tv′ r) ≡ stored sv (L .source .side) (nat (sv j)) (I .array a (nat (sv j))) k s) × (wid (tv′ r) ≡ arraySorts L .cell a)
   unfolding walk stored
   walk-agree leaf i a j ih h lj wj zero s r p hr (q, z) =
       let e = M .of-read q (z .inside) in
       let (x, mx, ex) = e .index-image in
       let mj : Mapped L j = (omega arith, rw (← z .index-is, ← ex) (mx .1)) in
-      let v : tv′ r ≡ val (cellWidth a) (A r) = row-value L F A assigns r (Var (cellWidth a)) hr (subst (λ (b : ℕ). T L r ≡ Var (cellWidth b)) (z .array-is) (rw (z .variable-is) at (e .is-var))) in
+      let v : tv′ r ≡ val (arraySorts L .cell a) (A r) = row-value L F A assigns r (Var (arraySorts L .cell a)) hr (subst (λ (b : ℕ). T L r ≡ Var (arraySorts L .cell b)) (z .array-is) (rw (z .variable-is) at (e .is-var))) in
       (ap nat v ∙ sym (leaf q r a j z mj (λ x l. ih x (omega arith))), ap wid v)
   walk-agree leaf i a j ih h lj wj (suc k) s r (lp, wp, lv, wv, rest) hr t =
       go (λ y hy u. walk-agree leaf i a j ih h lj wj k (s + 2) y rest hy u) _ refl _ refl _ refl t
@@ -146,12 +145,12 @@ module _ (L : Lowering) (F : Formed L) (M : Matched L) (I : Interpretation) (A :
       sj : List ℕ
       sj = rowAt Source (L .source .rows) j
 
-      go : ((y : ℕ) → y < targetRows L → Ends L a j (next y) → (nat (tv′ y) ≡ more) × (wid (tv′ y) ≡ cellWidth a))
+      go : ((y : ℕ) → y < targetRows L → Ends L a j (next y) → (nat (tv′ y) ≡ more) × (wid (tv′ y) ≡ arraySorts L .cell a))
           → (b : Bool) → bothConst (rowAt Source (L .source .rows) p) (rowAt Source (L .source .rows) j) ≡ b
           → (c : Bool) → sameConst (L .source .bits) (rowAt Source (L .source .rows) p) (L .source .bits) (rowAt Source (L .source .rows) j) ≡ c
           → (d : Bool) → isLevel (L .target .rows) (m L p) (m L j) (m L v) r ≡ d
           → Ends L a j (cond b (cond c (Met r v) (next r)) (cond d (next (fieldAt (L .target .rows) r 3)) Lost))
-          → (nat (tv′ r) ≡ cond (eqb (nat (sv p)) x) (nat (sv v)) more) × (wid (tv′ r) ≡ cellWidth a)
+          → (nat (tv′ r) ≡ cond (eqb (nat (sv p)) x) (nat (sv v)) more) × (wid (tv′ r) ≡ arraySorts L .cell a)
       go rec true eb true ec d ed u =
           let (kp, kj) = both-const sp sj eb in
           let (np, nj, same) = same-const (L .source .bits) (L .source .bits) sp sj ec in
@@ -186,7 +185,7 @@ module _ (L : Lowering) (F : Formed L) (M : Matched L) (I : Interpretation) (A :
   agree-rows leaf-var leaf-read leaf-call = strong Agree (λ i ih k. node-value i (S L i) (k .0) refl ∙ go i ih k (S L i) refl (M .of-row i k))
     where
       go : (i : ℕ) → ((j : ℕ) → j < i → Agree j) → Mapped L i → (node : Node) → S L i ≡ node → Found L i node
-          → sourceNode (L .source .bits) (L .source .side) I sv i node ≡ tv′ (m L i)
+          → sourceNode (arraySorts L) (L .source .bits) (L .source .side) I sv i node ≡ tv′ (m L i)
       go i ih k (Var w) e f = ap (val w) (leaf-var i w k e) ∙ sym (row-value L F A assigns (m L i) (Var w) (k .1) f)
       go i ih k (Const s w) e f = core-agree i (Const s w) ih k e f
       go i ih k (Un t a) e f = core-agree i (Un t a) ih k e f
@@ -196,7 +195,7 @@ module _ (L : Lowering) (F : Formed L) (M : Matched L) (I : Interpretation) (A :
       go i ih k (Ite c t b) e f = core-agree i (Ite c t b) ih k e f
       go i ih k (Select a j s n) e f =
           let r = node-formed i (Select a j s n) (k .0) e in
-          let p = pairs-formed (indexWidth a) (cellWidth a) sw i (L .source .side) n s (r .follows .2) in
+          let p = pairs-formed (arraySorts L .index a) (arraySorts L .cell a) sw i (L .source .side) n s (r .follows .2) in
           let (x, y) = walk-agree leaf-read i a j ih (k .0) (r .earlier .0) (r .follows .1) n s (m L i) p (k .1) f in
           val-ext _ _ (sym y) (sym x)
       go i ih k (Call f w s n) e (t, (q, c)) =

@@ -17,7 +17,6 @@ use Rattle.rows.specs.declared.Graph.the-variants.{Target}
 use Rattle.rows.specs.declared.Node.the-variants.{Var}
 use Rattle.rows.specs.Row.{rowAt}
 use Rattle.rows.specs.Tags.{tConst}
-use Rattle.rules.specs.Rule.{indexWidth, cellWidth}
 use Rattle.value.specs.Val.{Val, val, wid, nat}
 use Rattle.value.specs.Operate.{operate, constNumber}
 use Rattle.value.specs.Graph.{Assigns}
@@ -26,7 +25,7 @@ use Rattle.meaning.specs.Meaning.{Interpretation, OfKind, RootsTrue, sourceValu
 use Rattle.lowering.specs.Images.{fieldAt, unequalConst}
 use Rattle.lowering.specs.Tables.{readCount, readVar, readArray, readIndex, callCount, callVar, callFunction, argCount, callArg}
 use Rattle.lowering.specs.Tables.{resultWidth, argWidth, sameFunction}
-use Rattle.lowering.specs.Lowering.{Lowering, sourceRows, targetRows}
+use Rattle.lowering.specs.Lowering.{arraySorts, Lowering, sourceRows, targetRows}
 use Rattle.lowering.specs.Check.{widthsOfTarget}
 use Rattle.lowering.proofs.Images.{const-row, both-const}
 use Rattle.soundness.specs.Transfer.{sameVal, sameVals, readHit, callHit, readAt, callAt, interpretation}
@@ -122,7 +121,7 @@ module _ (L : Lowering) (F : Formed L) (M : Matched L) (A : ℕ → ℕ) (fits :
       sym (row-width L F A fits (callArg (L .calls) (L .cargs) q l) (rw (← ex) (k .1)))
 
   -- an index has its array's index width
-  index-width : (q : ℕ) → q < readCount (L .reads) → wid (v (readIndex (L .reads) q)) ≡ indexWidth (readArray (L .reads) q)
+  index-width : (q : ℕ) → q < readCount (L .reads) → wid (v (readIndex (L .reads) q)) ≡ arraySorts L .index (readArray (L .reads) q)
   index-width q h =
       let e = M .of-read q h in
       let (x, k, ex) = e .index-image in
@@ -136,7 +135,7 @@ module _ (L : Lowering) (F : Formed L) (M : Matched L) (A : ℕ → ℕ) (fits :
   constants k l hk hl e u n =
       let (b, (d, _)) = all-true _ u in
       let (ck, cl) = both-const (row k) (row l) b in
-      let w : getD (row k) 2 0 ≡ getD (row l) 2 0 = sym (ap wid (const k hk ck)) ∙ index-width k hk ∙ ap indexWidth e ∙ sym (index-width l hl) ∙ ap wid (const l hl cl) in
+      let w : getD (row k) 2 0 ≡ getD (row l) 2 0 = sym (ap wid (const k hk ck)) ∙ index-width k hk ∙ ap (arraySorts L .index) e ∙ sym (index-width l hl) ∙ ap wid (const l hl cl) in
       unequal-numbers (L .target .bits) (L .target .bits) (row k) (row l) (F .target-bits) (F .target-bits) b (not-true _ d) w (sym (ap nat (const k hk ck)) ∙ n ∙ ap nat (const l hl cl))
     where
       row : ℕ → List ℕ
@@ -159,7 +158,7 @@ module _ (L : Lowering) (F : Formed L) (M : Matched L) (A : ℕ → ℕ) (fits :
         hk = omega arith
 
         same : v (readIndex (L .reads) k) ≡ v (readIndex (L .reads) l)
-        same = val-ext _ _ (index-width k hk ∙ ap indexWidth e ∙ sym (index-width l hl)) n
+        same = val-ext _ _ (index-width k hk ∙ ap (arraySorts L .index) e ∙ sym (index-width l hl)) n
 
         root : (q : ℕ) × (q < length (L .troots)) × ReadCong L k l (rootOf L q) → A (readVar (L .reads) k) ≡ A (readVar (L .reads) l)
         root (q, hq, c) =
@@ -233,13 +232,13 @@ module _ (L : Lowering) (F : Formed L) (M : Matched L) (A : ℕ → ℕ) (fits :
     pub backward-agree : (i : ℕ) → Agree L F M I A fits i
     backward-agree = agree-rows L F M I A fits (λ i w k e. variable-at L A J i ∙ rw (lt-ltb _ _ (k .1))) leaf-read leaf-call
 
-    pub backward-roots : RootsTrue (sourceValue (L .source .rows) (L .source .bits) (L .source .side) I) (L .eroots)
+    pub backward-roots : RootsTrue (sourceValue (arraySorts L) (L .source .rows) (L .source .bits) (L .source .side) I) (L .eroots)
     backward-roots q h =
         let (k, l, e) = M .of-root q h in
         eq-eqb _ _ (ap nat (backward-agree (getD (L .eroots) q 0) k) ∙ rw (← e) (eqb-true _ _ (true-roots q l)))
 
   -- it gives each variable, cell and result a number of its kind
-  pub interpretation-fits : OfKind J (L .source .rows) → OfKind I (L .source .rows)
+  pub interpretation-fits : OfKind (arraySorts L) J (L .source .rows) → OfKind (arraySorts L) I (L .source .rows)
   interpretation-fits kinds =
       record {
         variables-fit = λ i w h e. rw (variable-at L A J i) (on-var i w h e _ refl);
@@ -251,12 +250,12 @@ module _ (L : Lowering) (F : Formed L) (M : Matched L) (A : ℕ → ℕ) (fits :
       on-var i w h e true q = let l = ltb-true _ _ q in fits (m L i) w l (of-var L M i w (h, l) e)
       on-var i w h e false q = kinds .variables-fit i w h e
 
-      on-cell : (a x : ℕ) (b : Bool) → ltb (readAt L A a x) (readCount (L .reads)) ≡ b → cond b (A (readVar (L .reads) (readAt L A a x))) (J .array a x) < 2 ^ cellWidth a
+      on-cell : (a x : ℕ) (b : Bool) → ltb (readAt L A a x) (readCount (L .reads)) ≡ b → cond b (A (readVar (L .reads) (readAt L A a x))) (J .array a x) < 2 ^ arraySorts L .cell a
       on-cell a x true q =
           let l = ltb-true _ _ q in
           let e = M .of-read (readAt L A a x) l in
           let (z, _) = read-hit (readAt L A a x) a x (first-hit (readHit L A a x) _ l) in
-          subst (λ (c : ℕ). A (readVar (L .reads) (readAt L A a x)) < 2 ^ cellWidth c) z (fits _ _ (e .inside) (e .is-var))
+          subst (λ (c : ℕ). A (readVar (L .reads) (readAt L A a x)) < 2 ^ arraySorts L .cell c) z (fits _ _ (e .inside) (e .is-var))
       on-cell a x false q = kinds .cells-fit a x
 
       on-result : (f w : ℕ) (vs : List Val) (b : Bool) → ltb (callAt L A f w vs) (callCount (L .calls)) ≡ b

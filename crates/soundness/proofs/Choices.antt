@@ -13,7 +13,7 @@ use Rattle.value.specs.Val.{Val}
 use Rattle.value.specs.Graph.{Assigns}
 use Rattle.meaning.specs.Meaning.{Interpretation, OfKind}
 use Rattle.lowering.specs.Images.{mapAt}
-use Rattle.lowering.specs.Lowering.{Lowering, targetRows}
+use Rattle.lowering.specs.Lowering.{arraySorts, Lowering, targetRows}
 use Rattle.soundness.specs.Choices.{Within, UnmappedVar, ClassZeroVar, AgreesOnUnmapped, AgreesOnClassZero, SameChoicesBy}
 use Rattle.soundness.proofs.Accepted.{zero-fits}
 
@@ -36,7 +36,7 @@ module _ (L : Lowering) where
   pub class-zero-has : (cls : List ℕ) (q : ℕ → ℕ) → AgreesOnClassZero L cls (in-class-zero cls q) q
   class-zero-has cls q r w (h, c, e) = rw (eq-eqb _ _ c)
 
-  pub unmapped-fits : (p : ℕ → ℕ) → Within (UnmappedVar L) p → OfKind (at-unmapped p) (L .source .rows)
+  pub unmapped-fits : (p : ℕ → ℕ) → Within (UnmappedVar L) p → OfKind (arraySorts L) (at-unmapped p) (L .source .rows)
   unmapped-fits p fits =
       record {
         variables-fit = λ i w h e. below _ (p i) w (λ t. fits i w (h, eqb-true _ _ t, e));

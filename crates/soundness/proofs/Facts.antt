@@ -6,13 +6,13 @@ use mathlib.Core.Logic.{_⊎_}
 use mathlib.Core.List.{[], map}
 use lib.Dec.{eqb}
 use lib.ListN.{length, getD}
+use Rattle.sorts.specs.Sorts.{plain}
 use Rattle.rows.specs.declared.Graph.the-variants.{Source, Target}
 use Rattle.rows.specs.declared.Node.{Node}
 use Rattle.rows.specs.declared.Node.the-variants.{Var}
 use Rattle.rows.specs.Row.{rowAt}
 use Rattle.rows.specs.Tags.{tVar}
 use Rattle.rows.specs.Node.{nodeOf, operands}
-use Rattle.rules.specs.Rule.{indexWidth, cellWidth}
 use Rattle.wf.specs.Promise.{WellFormed}
 use Rattle.value.specs.Operate.{tagOf, parameters}
 use Rattle.lowering.specs.declared.Walk.{Walk}
@@ -21,7 +21,7 @@ use Rattle.lowering.specs.Images.{mapAt, unequalConst}
 use Rattle.lowering.specs.Tables.{readCount, readVar, readArray, readIndex, callCount, callVar, callFunction, argCount, callArg, sameFunction}
 use Rattle.lowering.specs.Matching.{walk, mappedArg, Kind, var, const, core, select, call, unknown, kindOf}
 use Rattle.lowering.specs.Roots.{congruent}
-use Rattle.lowering.specs.Lowering.{Lowering, sourceRows, targetRows}
+use Rattle.lowering.specs.Lowering.{arraySorts, Lowering, sourceRows, targetRows}
 use Rattle.lowering.specs.Check.{widthsOfSource, widthsOfTarget}
 
 -- whose a target variable is: a source variable's image, a read entry's, a call entry's
@@ -54,8 +54,8 @@ module _ (L : Lowering) where
 
   -- the layer below: both graphs are well formed, the target holds core rows and bits
   pub record Formed : Type 0 where
-    pub source-formed : WellFormed Source (length (L .source .bits)) (L .source .side) (L .source .rows) (widthsOfSource L)
-    pub target-formed : WellFormed Target (length (L .target .bits)) [] (L .target .rows) (widthsOfTarget L)
+    pub source-formed : WellFormed (arraySorts L) Source (length (L .source .bits)) (L .source .side) (L .source .rows) (widthsOfSource L)
+    pub target-formed : WellFormed plain Target (length (L .target .bits)) [] (L .target .rows) (widthsOfTarget L)
     pub source-bits : (k : ℕ) → getD (L .source .bits) k 0 < 2
     pub target-bits : (k : ℕ) → getD (L .target .bits) k 0 < 2
     pub target-core : (r : ℕ) → r < targetRows L → tagOf (T r) < 37
@@ -106,8 +106,8 @@ module _ (L : Lowering) where
   -- a read entry: its variable is a row of the array's cell width, its index an image of the array's index width
   pub record ReadEntry (q : ℕ) : Type 0 where
     pub inside : readVar (L .reads) q < targetRows L
-    pub is-var : T (readVar (L .reads) q) ≡ Var (cellWidth (readArray (L .reads) q))
-    pub index-width : getD (widthsOfTarget L) (readIndex (L .reads) q) 0 ≡ indexWidth (readArray (L .reads) q)
+    pub is-var : T (readVar (L .reads) q) ≡ Var (arraySorts L .cell (readArray (L .reads) q))
+    pub index-width : getD (widthsOfTarget L) (readIndex (L .reads) q) 0 ≡ arraySorts L .index (readArray (L .reads) q)
     pub index-image : Image (readIndex (L .reads) q)
 
   -- a call entry: its variable is a Var row, its arguments are images

@@ -16,14 +16,13 @@ use Rattle.rows.specs.declared.Graph.the-variants.{Source, Target}
 use Rattle.rows.specs.declared.Node.the-variants.{Var}
 use Rattle.rows.specs.Row.{rowAt}
 use Rattle.rows.specs.Tags.{tVar}
-use Rattle.rules.specs.Rule.{cellWidth}
 use Rattle.value.specs.Val.{Val, val, wid, nat}
 use Rattle.value.specs.Graph.{Assigns}
 use Rattle.value.proofs.Tagged.{node-var}
 use Rattle.meaning.specs.Meaning.{Interpretation, OfKind, RootsTrue, sourceValue}
 use Rattle.lowering.specs.Images.{mapAt, fieldAt}
 use Rattle.lowering.specs.Tables.{readCount, readVar, readArray, readIndex, callCount, callVar, callFunction, argCount, callArg, sameFunction}
-use Rattle.lowering.specs.Lowering.{Lowering, sourceRows, targetRows}
+use Rattle.lowering.specs.Lowering.{arraySorts, Lowering, sourceRows, targetRows}
 use Rattle.soundness.specs.Transfer.{origin, isOrigin, varOrigin, readOf, callOf, originValue, readCell, callResult, assignment}
 use Rattle.soundness.proofs.Facts.{S, T, m, Mapped, oneFunction, Formed, Owner, by-var, by-read, by-call, Owns, ReadPair, CallPair, Matched, rootOf}
 use Rattle.soundness.proofs.Images.{var-row}
@@ -121,7 +120,7 @@ module _ (L : Lowering) (F : Formed L) (M : Matched L) (I : Interpretation) (giv
           (λ j l t. let (a, b) = is-origin r j t in none (by-var j) ((l, rw b h), (_, a), b))
 
   -- it gives each variable a number of its width
-  pub assignment-fits : OfKind I (L .source .rows) → Assigns given (L .target .rows) → Assigns A (L .target .rows)
+  pub assignment-fits : OfKind (arraySorts L) I (L .source .rows) → Assigns given (L .target .rows) → Assigns A (L .target .rows)
   unfolding assignment readCell callResult
   assignment-fits kinds fits r w h v = go _ refl _ refl _ refl
     where
@@ -179,13 +178,13 @@ module _ (L : Lowering) (F : Formed L) (M : Matched L) (I : Interpretation) (giv
 
     -- an entry's variable: its array at its index's value, its function at its arguments' values
     read-value : (q : ℕ) → q < readCount (L .reads)
-        → tv L F A fits (readVar (L .reads) q) ≡ val (cellWidth (readArray (L .reads) q)) (I .array (readArray (L .reads) q) (nat (tv L F A fits (readIndex (L .reads) q))))
+        → tv L F A fits (readVar (L .reads) q) ≡ val (arraySorts L .cell (readArray (L .reads) q)) (I .array (readArray (L .reads) q) (nat (tv L F A fits (readIndex (L .reads) q))))
     unfolding readCell
     read-value q h =
         let e = M .of-read q h in
         let (x, k, ex) = e .index-image in
         row-value L F A fits (readVar (L .reads) q) _ (e .inside) (e .is-var)
-        ∙ ap (val (cellWidth (readArray (L .reads) q))) (at-read q h ∙ ap (λ (v : Val). I .array (readArray (L .reads) q) (nat v)) (origin-value x (readIndex (L .reads) q) k (sym ex) (λ j l. forward-agree j)))
+        ∙ ap (val (arraySorts L .cell (readArray (L .reads) q))) (at-read q h ∙ ap (λ (v : Val). I .array (readArray (L .reads) q) (nat v)) (origin-value x (readIndex (L .reads) q) k (sym ex) (λ j l. forward-agree j)))
 
     call-value : (q : ℕ) (h : q < callCount (L .calls))
         → tv L F A fits (callVar (L .calls) q)
@@ -200,7 +199,7 @@ module _ (L : Lowering) (F : Formed L) (M : Matched L) (I : Interpretation) (giv
         (tabulate-same _ _ (argCount (L .calls) q) (λ l u. let (x, k, ex) = e .args-image l u in origin-value x (callArg (L .calls) (L .cargs) q l) k (sym ex) (λ j b. forward-agree j))))
 
     -- the target's roots: images of true roots, and congruence roots
-    pub forward-roots : RootsTrue (sourceValue (L .source .rows) (L .source .bits) (L .source .side) I) (L .eroots) → RootsTrue (tv L F A fits) (L .troots)
+    pub forward-roots : RootsTrue (sourceValue (arraySorts L) (L .source .rows) (L .source .bits) (L .source .side) I) (L .eroots) → RootsTrue (tv L F A fits) (L .troots)
     forward-roots true-roots q h = eq-eqb _ _ (⊎-elim image (⊎-elim reads calls) (M .only q h))
       where
         image : q < length (L .eroots) → nat (tv L F A fits (rootOf L q)) ≡ 1
@@ -212,8 +211,8 @@ module _ (L : Lowering) (F : Formed L) (M : Matched L) (I : Interpretation) (giv
         reads (k, l, hk, hl, e, c) =
             tells-in (cong-tells L F A fits _ _ 1 (readVar (L .reads) k) (readVar (L .reads) l) (rootOf L q) c)
             (λ s. read-value k hk
-            ∙ (ap (λ (v : Val). val (cellWidth (readArray (L .reads) k)) (I .array (readArray (L .reads) k) (nat v))) (s 0 (omega arith)))
-            ∙ ap (λ (a : ℕ). val (cellWidth a) (I .array a (nat (tv L F A fits (readIndex (L .reads) l))))) e
+            ∙ (ap (λ (v : Val). val (arraySorts L .cell (readArray (L .reads) k)) (I .array (readArray (L .reads) k) (nat v))) (s 0 (omega arith)))
+            ∙ ap (λ (a : ℕ). val (arraySorts L .cell a) (I .array a (nat (tv L F A fits (readIndex (L .reads) l))))) e
             ∙ sym (read-value l hl))
 
         calls : CallPair L (rootOf L q) → nat (tv L F A fits (rootOf L q)) ≡ 1

@@ -6,6 +6,7 @@ use mathlib.Core.Bool.{true, false}
 use mathlib.Core.List.{List, [], _∷_}
 use native.Mathlib.Omega.{arith}
 use lib.Pow.{pow-pos}
+use Rattle.sorts.specs.Sorts.{plain}
 use Rattle.bv.specs.Bits.{ofBits}
 use Rattle.lists.specs.Build.{build}
 use Rattle.lists.specs.First.{first}
@@ -102,7 +103,7 @@ strict-source : SourceTrueBy two-reads isTrueBit found
 strict-source = backward-along true two-reads room room room room (omega arith) strictly numbers zero-interpretation (zero-fits two-reads) strict-target .0
 
 -- and these are its rows: the indices, the bytes that the array holds there, and the root
-pub source-numbers : sourceValues (two-reads .source .rows) (two-reads .source .bits) (two-reads .source .side) found 5
+pub source-numbers : sourceValues plain (two-reads .source .rows) (two-reads .source .bits) (two-reads .source .side) found 5
     ≡ val 32 0 ∷ val 32 1 ∷ val 8 0 ∷ val 8 1 ∷ val 1 1 ∷ []
 unfolding build operate stored interpretation readHit first all
 source-numbers = refl

@@ -19,7 +19,7 @@ use Rattle.lowering.specs.declared.Walk.the-variants.{RanOut, Met, Lost}
 use Rattle.rows.specs.Row.{MAX}
 use Rattle.lowering.specs.Tables.{readCount, readVar, readIndex, callCount, callVar, argCount, callArg}
 use Rattle.lowering.specs.Matching.{rowClasses}
-use Rattle.lowering.specs.Lowering.{Lowering, sourceRows, targetRows}
+use Rattle.lowering.specs.Lowering.{arraySorts, Lowering, sourceRows, targetRows}
 use Rattle.lowering.specs.Check.{widthsOfSource, classesOfTables, classes, offsets}
 use Rattle.soundness.proofs.Facts.{S, m, Mapped, Image, Formed, Ends, walkOf, Found, ReadEntry, CallEntry, Owner, by-var, by-read, by-call, Owns}
 use Rattle.soundness.specs.Passed.{Passed}
@@ -128,7 +128,7 @@ module _ (L : Lowering) (P : Passed L) (F : Formed L) (small : targetRows L ≤ 
   use-owner i r u (x, e) = go (S L i) refl (of-row L P F small i x) e (F .source-formed i (x .0))
     where
       go : (node : Node) → S L i ≡ node → Found L i node → usedAt L (m L i) node ≡ r
-          → RowFormed (length (L .source .bits)) (L .source .side) (λ a. getD (widthsOfSource L) a 0) i node → OwnedBy L i r
+          → RowFormed (arraySorts L) (length (L .source .bits)) (L .source .side) (λ a. getD (widthsOfSource L) a 0) i node → OwnedBy L i r
       go (Var w) n f e g = (by-var i, (x, (w, n), e), refl)
       go (Select a j s k) n f e g = end-owner i a j r (g .earlier .0) u (walkOf L j k s (m L i)) f e
       go (Call f w s k) n (t, (q, c)) e g = (

@@ -10,7 +10,7 @@ use lib.ListN.{length}
 use Rattle.answers.specs.declared.Answer.{Answer}
 use Rattle.lowering.specs.Lowering.{Lowering, sourceRows}
 use Rattle.lowering.specs.Check.{sourceIll, targetIll, widthsOfSource, widthsOfTarget, answerOf}
-use Rattle.lowering.specs.Check.{countAnswers, graphAnswers, bitAnswers, formAnswers, matchAnswers}
+use Rattle.lowering.specs.Check.{countAnswers, formsOf, bitAnswers, formAnswers, matchAnswers}
 use Rattle.lowering.proofs.Inversion.{Each, each, each-append, not-refused, all-fail, all-pass, first-refused}
 use Rattle.soundness.specs.Sound.{AcceptsBy, StrictlyAccepts}
 use Rattle.soundness.specs.Passed.{Passed, OneBit}
@@ -20,13 +20,13 @@ module _ (strict : Bool) (L : Lowering) (ws0 ws1 cls ent : List ℕ) (accepts : 
   counts = countAnswers (L .source) (L .target) (length ws0) (length ws1) (length cls) (length ent)
 
   abbrev graphs : List Answer
-  graphs = graphAnswers (L .source) (L .target) (sourceIll (L .source)) (targetIll (L .target))
+  graphs = formsOf (L .edition) (L .source) (L .target)
 
   abbrev bits : List Answer
   bits = bitAnswers strict (widthsOfSource L) (L .eroots) (widthsOfTarget L) (L .troots)
 
   abbrev forms : List Answer
-  forms = formAnswers strict (L .source) (L .target) (L .eroots) (L .troots)
+  forms = formAnswers strict (L .edition) (L .source) (L .target) (L .eroots) (L .troots)
 
   -- the counts; the graphs, then the roots' widths; the rest
   counts-pass : Each counts × Each (forms ++ matchAnswers L)
@@ -40,7 +40,7 @@ module _ (strict : Bool) (L : Lowering) (ws0 ws1 cls ent : List ℕ) (accepts : 
 
   pub passed : Passed L
   passed =
-      let (erows, (trows, (ebits, (tbits, (eform, (tform, _)))))) = graphs-pass .0 in
+      let (erows, (trows, (ebits, (tbits, (_, (eform, (tform, _))))))) = graphs-pass .0 in
       let (map, (reads, (calls, (rows, (dead, (lead, (rroots, (croots, (surplus, _))))))))) = forms-pass .1 in
       record {
         source-rows = ltb-false _ _ (not-refused _ _ refl erows);

@@ -10,6 +10,7 @@ use borrow.Author.Tests.{eqb-true}
 use lib.Dec.{eqb}
 use lib.ListN.{getD}
 use lib.Pow.{pow-pos}
+use Rattle.sorts.specs.Sorts.{plain}
 use Rattle.answers.specs.Answer.{words, wordsOf}
 use Rattle.bv.specs.Bits.{ofBits, ofBool}
 use Rattle.lists.specs.Build.{build}
@@ -116,7 +117,7 @@ module _ (roots : List ℕ) (x a y b : ℕ) (hx : x < 2 ^ 8) (ha : a < 2 ^ 32) (
       pick-below x a y i (2 ^ w) (λ q. of-width x 8 w hx (ap widthOf (rw q at e))) (λ q. of-width a 32 w ha (ap widthOf (rw q at e)))
       (λ q. of-width y 8 w hy (ap widthOf (rw q at e))) (pow-pos w)
 
-  kinds : OfKind (holding b (pick x a y)) (scan roots .source .rows)
+  kinds : OfKind plain (holding b (pick x a y)) (scan roots .source .rows)
   kinds = record { variables-fit = λ i w h e. variables i w e; cells-fit = λ c z. hb; results-fit = λ f w vs. pow-pos w }
 
   -- x, a and y are open in the source where some byte makes the roots true
@@ -248,7 +249,7 @@ image-decides choices =
     fits zero w e = of-width 1 1 w (omega arith) (ap widthOf e)
     fits (suc i) w e = pow-pos w
 
-    kind : OfKind (holding 0 first-only) (by-image .source .rows)
+    kind : OfKind plain (holding 0 first-only) (by-image .source .rows)
     kind = record { variables-fit = λ i w h e. fits i w e; cells-fit = λ c z. omega arith; results-fit = λ f w vs. pow-pos w }
 
     root : RootsTrue (valueOfSource by-image (holding 0 first-only)) (0 ∷ [])

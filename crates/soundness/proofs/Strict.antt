@@ -13,7 +13,7 @@ use Rattle.answers.specs.Result.{leaves}
 use Rattle.lists.proofs.Choice.{no-way}
 use Rattle.wf.specs.Widths.{badRoot}
 use Rattle.lowering.specs.Lowering.{Lowering, sourceRows}
-use Rattle.lowering.specs.Check.{sourceIll, targetIll, widthsOfSource, widthsOfTarget, classes, offsets, refuse, firstRefusal, countAnswers, graphAnswers, bitAnswers, matchAnswers}
+use Rattle.lowering.specs.Check.{widthsOfSource, widthsOfTarget, classes, offsets, refuse, firstRefusal, countAnswers, formsOf, bitAnswers, matchAnswers}
 use Rattle.lowering.specs.Check.{checkAnswer, checkAnswerBy, check, strictCheck}
 use Rattle.lowering.proofs.Refusals.{refusal-append}
 
@@ -22,7 +22,7 @@ module _ (L : Lowering) (w0 w1 c e : ℕ) where
   counts = firstRefusal (countAnswers (L .source) (L .target) w0 w1 c e)
 
   abbrev graphs : Answer
-  graphs = firstRefusal (graphAnswers (L .source) (L .target) (sourceIll (L .source)) (targetIll (L .target)))
+  graphs = firstRefusal (formsOf (L .edition) (L .source) (L .target))
 
   abbrev bits : Bool → Answer
   bits strict = firstRefusal (bitAnswers strict (widthsOfSource L) (L .eroots) (widthsOfTarget L) (L .troots))
@@ -33,7 +33,7 @@ module _ (L : Lowering) (w0 w1 c e : ℕ) where
   -- the roots' widths are asked about between the graphs and the rest, and by Check not at all
   by-parts : (strict : Bool) → checkAnswerBy strict L w0 w1 c e ≡ andThen counts (andThen graphs (andThen (bits strict) rest))
   by-parts strict =
-      let gs = graphAnswers (L .source) (L .target) (sourceIll (L .source)) (targetIll (L .target)) in
+      let gs = formsOf (L .edition) (L .source) (L .target) in
       let bs = bitAnswers strict (widthsOfSource L) (L .eroots) (widthsOfTarget L) (L .troots) in
       refusal-append (countAnswers (L .source) (L .target) w0 w1 c e) (gs ++ (bs ++ matchAnswers L))
       ∙ ap (andThen counts) (refusal-append gs (bs ++ matchAnswers L) ∙ ap (andThen graphs) (refusal-append bs (matchAnswers L)))

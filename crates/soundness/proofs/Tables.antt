@@ -7,6 +7,7 @@ use mathlib.Core.List.{List, []}
 use native.Mathlib.Omega.{arith}
 use borrow.Author.Tests.{eqb-true, ltb-true, leb-true, leb-false}
 use lib.ListN.{length, getD, replicate, length-replicate, getD-replicate}
+use Rattle.sorts.specs.Sorts.{Sorts, plain}
 use Rattle.lists.specs.Trace.{marks}
 use Rattle.lists.proofs.Build.{build-length}
 use Rattle.lists.proofs.Choice.{both}
@@ -16,11 +17,11 @@ use Rattle.rows.specs.declared.Graph.{Graph}
 use Rattle.rows.specs.declared.Graph.the-variants.{Target}
 use Rattle.rows.specs.declared.Node.the-variants.{Var}
 use Rattle.rows.specs.Row.{rowCount, rowAt}
-use Rattle.rules.specs.Rule.{indexWidth, cellWidth, hasWidth}
+use Rattle.rules.specs.Rule.{hasWidth}
 use Rattle.wf.specs.Widths.{rowWidth, widths}
 use Rattle.lowering.specs.Images.{fieldAt}
 use Rattle.lowering.specs.Tables.{readCount, readVar, readArray, readIndex, callCount, callVar, callStart, argCount, callArg, readGood, callGood, readClasses, callClasses, readOffsets}
-use Rattle.lowering.specs.Lowering.{Lowering, targetRows}
+use Rattle.lowering.specs.Lowering.{arraySorts, Lowering, targetRows}
 use Rattle.lowering.specs.Check.{widthsOfTarget, noClasses, classesOfReads, classesOfTables, offsets}
 use Rattle.lowering.proofs.Marks.{marks-length}
 use Rattle.lowering.proofs.Images.{row-is}
@@ -30,10 +31,10 @@ use Rattle.soundness.proofs.Images.{var-row}
 use Rattle.soundness.proofs.Marks.{table-at, table-stay, table-from}
 
 -- a row that has a width among a graph's widths is a row of that graph, and of that width
-pub row-of-width : (graph : Graph) (nbits : ℕ) (side g : List ℕ) (a w : ℕ) → hasWidth (widths graph nbits side g) a w ≡ true
-    → (a < rowCount graph g) × (getD (widths graph nbits side g) a 0 ≡ w)
-row-of-width graph nbits side g a w e =
-    let (h, t) = both _ _ e in (rw (build-length (rowWidth graph nbits side g) (rowCount graph g)) at (ltb-true a _ h), eqb-true _ _ t)
+pub row-of-width : (σ : Sorts) (graph : Graph) (nbits : ℕ) (side g : List ℕ) (a w : ℕ) → hasWidth (widths σ graph nbits side g) a w ≡ true
+    → (a < rowCount graph g) × (getD (widths σ graph nbits side g) a 0 ≡ w)
+row-of-width σ graph nbits side g a w e =
+    let (h, t) = both _ _ e in (rw (build-length (rowWidth σ graph nbits side g) (rowCount graph g)) at (ltb-true a _ h), eqb-true _ _ t)
 
 -- a target row is the variable of some entry
 module _ (L : Lowering) where
@@ -46,13 +47,13 @@ module _ (L : Lowering) where
 module _ (L : Lowering) {N : ℕ} (E : Reached L N) where
   -- what the tests of an entry say
   pub read-facts : (q : ℕ) → q < readCount (L .reads)
-      → (readVar (L .reads) q < targetRows L) × (T L (readVar (L .reads) q) ≡ Var (cellWidth (readArray (L .reads) q)))
+      → (readVar (L .reads) q < targetRows L) × (T L (readVar (L .reads) q) ≡ Var (arraySorts L .cell (readArray (L .reads) q)))
       × (getD (readClasses (L .reads) (noClasses L) q) (readVar (L .reads) q) 0 ≡ 0)
-      × (hasWidth (widthsOfTarget L) (readIndex (L .reads) q) (indexWidth (readArray (L .reads) q)) ≡ true)
+      × (hasWidth (widthsOfTarget L) (readIndex (L .reads) q) (arraySorts L .index (readArray (L .reads) q)) ≡ true)
   unfolding readGood
   read-facts q h =
       let (_, (a, (b, (c, (d, _))))) = all-true _ (E .reads q h) in
-      (ltb-true _ _ a, row-is (rowAt Target (L .target .rows) (readVar (L .reads) q)) (Var (cellWidth (readArray (L .reads) q))) tt b, eqb-true _ _ c, d)
+      (ltb-true _ _ a, row-is (rowAt Target (L .target .rows) (readVar (L .reads) q)) (Var (arraySorts L .cell (readArray (L .reads) q))) tt b, eqb-true _ _ c, d)
 
   pub call-facts : (q : ℕ) → q < callCount (L .calls)
       → (callVar (L .calls) q < targetRows L) × (T L (callVar (L .calls) q) ≡ Var (fieldAt (L .target .rows) (callVar (L .calls) q) 1))
@@ -79,8 +80,8 @@ module _ (L : Lowering) {N : ℕ} (E : Reached L N) where
 
   -- the index of a read is a row of its width
   pub read-index : (q : ℕ) → q < readCount (L .reads)
-      → (readIndex (L .reads) q < targetRows L) × (getD (widthsOfTarget L) (readIndex (L .reads) q) 0 ≡ indexWidth (readArray (L .reads) q))
-  read-index q h = row-of-width Target (length (L .target .bits)) [] (L .target .rows) _ _ (read-facts q h .3)
+      → (readIndex (L .reads) q < targetRows L) × (getD (widthsOfTarget L) (readIndex (L .reads) q) 0 ≡ arraySorts L .index (readArray (L .reads) q))
+  read-index q h = row-of-width plain Target (length (L .target .bits)) [] (L .target .rows) _ _ (read-facts q h .3)
 
   start-length : length (noClasses L) ≡ targetRows L
   start-length = length-replicate {A = ℕ} (targetRows L) 0

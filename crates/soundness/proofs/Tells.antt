@@ -9,6 +9,7 @@ use native.Mathlib.Omega.{arith}
 use borrow.Author.Tests.{eq-eqb, eqb-true, ltb-true}
 use lib.Dec.{eqb}
 use lib.ListN.{length, getD}
+use Rattle.sorts.specs.Sorts.{plain}
 use Rattle.bv.specs.Bits.{ofBits, ofBool}
 use Rattle.bv.specs.Bv.{bvnot, bvand, bvor}
 use Rattle.lists.proofs.Tests.{all-true}
@@ -116,7 +117,7 @@ module _ (L : Lowering) (F : Formed L) (A : ℕ → ℕ) (assigns : Assigns A (L
   pub row-width : (r : ℕ) → r < targetRows L → wid (tv r) ≡ tw r
   row-width r h = value-formed (L .target .bits) [] (L .target .rows) (widthsOfTarget L) A (F .target-formed) (F .target-bits) (F .target-core) assigns r h .0
 
-  pub row-formed : (r : ℕ) (node : Node) → r < targetRows L → T L r ≡ node → RowFormed (length (L .target .bits)) [] tw r node
+  pub row-formed : (r : ℕ) (node : Node) → r < targetRows L → T L r ≡ node → RowFormed plain (length (L .target .bits)) [] tw r node
   row-formed r node h e = rw e at (F .target-formed r h)
 
   pub eq-number : (r a b : ℕ) → r < targetRows L → T L r ≡ Bin tEq a b → nat (tv r) ≡ ofBool (eqb (nat (tv a)) (nat (tv b)))

@@ -8,6 +8,7 @@ use mathlib.Core.Bool.{Bool, true, false}
 use mathlib.Core.Logic.{_↔_}
 use mathlib.Core.List.{List, []}
 use lib.ListN.{length, getD}
+use Rattle.sorts.specs.Sorts.{plain}
 use Rattle.lists.proofs.Choice.{no-way}
 use Rattle.answers.specs.declared.Answer.{Answer}
 use Rattle.answers.specs.Answer.{isAccepted, lent}
@@ -20,7 +21,7 @@ use Rattle.rows.specs.Tags.{either}
 use Rattle.wf.specs.Promise.{AreWidths}
 use Rattle.wf.proofs.Promise.{are-widths}
 use Rattle.lowering.specs.Images.{mapAt}
-use Rattle.lowering.specs.Lowering.{Lowering, targetRows}
+use Rattle.lowering.specs.Lowering.{arraySorts, Lowering, targetRows}
 use Rattle.lowering.specs.Check.{widthsOfSource, widthsOfTarget}
 use Rattle.soundness.specs.Sound.{AcceptsBy, Accepts, StrictlyAccepts, SoundBy, ImagesAgree, SourceTrue, SourceTrueBy, TargetTrue, TargetTrueBy}
 use Rattle.soundness.specs.Sound.{SourceIsSatisfiableBy, TargetIsSatisfiableBy}
@@ -70,7 +71,7 @@ module _ (strict : Bool) (L : Lowering) (ws0 ws1 cls ent : List ℕ) (slice : le
       let (t, a) = passed-forward L slice tests I given free (plain-source I .0 s) in (plain-target (assignment L I given) .1 t, a)
 
   -- 2. Backward, along a given interpretation for what the lowering leaves free: the interpretation that belongs to an assignment
-  pub backward-along : (A : ℕ → ℕ) (J : Interpretation) → OfKind J (L .source .rows) → TargetTrueBy L (truth strict) A
+  pub backward-along : (A : ℕ → ℕ) (J : Interpretation) → OfKind (arraySorts L) J (L .source .rows) → TargetTrueBy L (truth strict) A
       → SourceTrueBy L (truth strict) (interpretation L A J) × ImagesAgree L (interpretation L A J) A
   backward-along A J free t =
       let (s, a) = passed-backward L slice tests A J free (plain-target A .0 t) in (plain-source (interpretation L A J) .1 s, a)
@@ -135,6 +136,6 @@ module _ (strict : Bool) (L : Lowering) (ws0 ws1 cls ent : List ℕ) (slice : le
   -- "Every width handed upward is therefore between 1 and 4,096, and whoever receives one may use it" (02, 2.8)
   pub handed : AreWidths (widthsOfSource L) × AreWidths (widthsOfTarget L)
   handed = (
-    are-widths Source (length (L .source .bits)) (L .source .side) (L .source .rows) (tests .source-formed),
-    are-widths Target (length (L .target .bits)) [] (L .target .rows) (tests .target-formed),
+    are-widths (arraySorts L) Source (length (L .source .bits)) (L .source .side) (L .source .rows) (tests .source-formed),
+    are-widths plain Target (length (L .target .bits)) [] (L .target .rows) (tests .target-formed),
   )

@@ -6,6 +6,7 @@ use mathlib.Core.Bool.{Bool, true, false}
 use mathlib.Core.Logic.{_↔_}
 use mathlib.Core.List.{List, []}
 use lib.ListN.{length, getD}
+use Rattle.sorts.specs.Sorts.{plain}
 use Rattle.rows.specs.declared.Graph.the-variants.{Source, Target}
 use Rattle.value.specs.Val.{Val, wid}
 use Rattle.value.specs.Graph.{Assigns}
@@ -13,7 +14,7 @@ use Rattle.value.proofs.Formed.{value-formed}
 use Rattle.meaning.specs.Meaning.{Interpretation, isTrue, isTrueBit, truth, RootsTrue, RootsTrueBy}
 use Rattle.meaning.proofs.Truth.{one-bit-truth}
 use Rattle.meaning.proofs.Values.{source-width}
-use Rattle.lowering.specs.Lowering.{Lowering}
+use Rattle.lowering.specs.Lowering.{arraySorts, Lowering}
 use Rattle.lowering.specs.Check.{widthsOfSource, widthsOfTarget}
 use Rattle.soundness.specs.Sound.{valueOfSource, valueOfTarget, SourceTrue, SourceTrueBy, TargetTrue, TargetTrueBy}
 use Rattle.soundness.specs.Passed.{OneBit}
@@ -30,13 +31,13 @@ roots-agree values roots bit =
 module _ (L : Lowering) (F : Formed L) (bits : OneBit L) where
   source-bit : (I : Interpretation) (k : ℕ) → k < length (L .eroots) → wid (valueOfSource L I (getD (L .eroots) k 0)) ≡ 1
   source-bit I k h =
-      let (l, e) = row-of-width Source (length (L .source .bits)) (L .source .side) (L .source .rows) _ _ (bits .source-roots k h) in
+      let (l, e) = row-of-width (arraySorts L) Source (length (L .source .bits)) (L .source .side) (L .source .rows) _ _ (bits .source-roots k h) in
       source-width (L .source .bits) (L .source .side) (L .source .rows) (widthsOfSource L) I (F .source-formed) _ l ∙ e
 
   target-bit : (A : ℕ → ℕ) → Assigns A (L .target .rows) → (k : ℕ) → k < length (L .troots)
       → wid (valueOfTarget L A (getD (L .troots) k 0)) ≡ 1
   target-bit A fits k h =
-      let (l, e) = row-of-width Target (length (L .target .bits)) [] (L .target .rows) _ _ (bits .target-roots k h) in
+      let (l, e) = row-of-width plain Target (length (L .target .bits)) [] (L .target .rows) _ _ (bits .target-roots k h) in
       value-formed (L .target .bits) [] (L .target .rows) (widthsOfTarget L) A (F .target-formed) (F .target-bits) (F .target-core) fits _ l .0 ∙ e
 
   -- the truths agree on the source, whatever interprets it, and on the target

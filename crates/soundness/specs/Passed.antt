@@ -12,7 +12,7 @@ use Rattle.encoding.specs.Encoding.{badRow, badBit}
 use Rattle.rules.specs.Rule.{hasWidth}
 use Rattle.lowering.specs.Tables.{readCount, callCount, readGood, callGood, readClasses, callClasses}
 use Rattle.lowering.specs.Roots.{pair, leads, rootAt, readRoot, callRoot}
-use Rattle.lowering.specs.Lowering.{Lowering, sourceRows, targetRows}
+use Rattle.lowering.specs.Lowering.{arraySorts, Lowering, sourceRows, targetRows}
 use Rattle.lowering.specs.Check.{sourceIll, targetIll, widthsOfSource, widthsOfTarget, noClasses, classesOfReads, classes, answerOf}
 use Rattle.lowering.specs.Check.{pairsOfReads, pairsOfCalls, callRoots, rootsEnd}
 
@@ -20,7 +20,7 @@ use Rattle.lowering.specs.Check.{pairsOfReads, pairsOfCalls, callRoots, rootsEn
 pub record Reached (L : Lowering) (n : ℕ) : Type 0 where
   pub inside : n ≤ sourceRows L
   pub reads : (k : ℕ) → k < readCount (L .reads)
-      → readGood (L .reads) (L .target .rows) (widthsOfTarget L) (readClasses (L .reads) (noClasses L) k) k ≡ true
+      → readGood (arraySorts L) (L .reads) (L .target .rows) (widthsOfTarget L) (readClasses (L .reads) (noClasses L) k) k ≡ true
   pub calls : (k : ℕ) → k < callCount (L .calls)
       → callGood (L .calls) (L .cargs) (L .target .rows) (widthsOfTarget L) (callClasses (L .calls) (classesOfReads L) k) k ≡ true
   pub rows : (i : ℕ) → i < n → isAccepted (answerOf L i) ≡ true
@@ -31,7 +31,7 @@ pub record Passed (L : Lowering) : Type 0 where
   pub target-rows : targetRows L ≤ badRow Target (L .target .rows)
   pub source-bits : length (L .source .bits) ≤ badBit (L .source .bits)
   pub target-bits : length (L .target .bits) ≤ badBit (L .target .bits)
-  pub source-formed : sourceRows L ≤ sourceIll (L .source)
+  pub source-formed : sourceRows L ≤ sourceIll (arraySorts L) (L .source)
   pub target-formed : targetRows L ≤ targetIll (L .target)
   pub map-length : length (L .map) ≡ sourceRows L
   pub reached : Reached L (sourceRows L)

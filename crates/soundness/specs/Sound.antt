@@ -10,7 +10,7 @@ use Rattle.value.specs.Graph.{value, Assigns}
 use Rattle.meaning.specs.Meaning.{Interpretation, OfKind, isTrue, isTrueBit, RootsTrueBy, SourceSatisfiableBy, TargetSatisfiableBy, sourceValue}
 use Rattle.rows.specs.Row.{MAX}
 use Rattle.lowering.specs.Images.{mapAt}
-use Rattle.lowering.specs.Lowering.{Lowering, sourceRows, targetRows}
+use Rattle.lowering.specs.Lowering.{arraySorts, Lowering, sourceRows, targetRows}
 use Rattle.lowering.specs.Check.{checkBy}
 
 -- "The checker accepts when Check's number is 0"; the strict one likewise
@@ -26,7 +26,7 @@ StrictlyAccepts L ws0 ws1 cls ent = AcceptsBy true L ws0 ws1 cls ent
 module _ (L : Lowering) where
   -- the value of a source row under an interpretation, of a target row under an assignment
   abbrev pub valueOfSource : Interpretation → ℕ → Val
-  valueOfSource I i = sourceValue (L .source .rows) (L .source .bits) (L .source .side) I i
+  valueOfSource I i = sourceValue (arraySorts L) (L .source .rows) (L .source .bits) (L .source .side) I i
 
   abbrev pub valueOfTarget : (ℕ → ℕ) → ℕ → Val
   valueOfTarget A r = value (L .target .bits) A (L .target .rows) r
@@ -43,13 +43,13 @@ module _ (L : Lowering) where
   -- an interpretation that makes the source's roots true, an assignment that makes the target's, by some truth
   module _ (holds : Val → Bool) where
     abbrev pub SourceTrueBy : Interpretation → Type 0
-    SourceTrueBy I = OfKind I (L .source .rows) × RootsTrueBy holds (valueOfSource I) (L .eroots)
+    SourceTrueBy I = OfKind (arraySorts L) I (L .source .rows) × RootsTrueBy holds (valueOfSource I) (L .eroots)
 
     abbrev pub TargetTrueBy : (ℕ → ℕ) → Type 0
     TargetTrueBy A = Assigns A (L .target .rows) × RootsTrueBy holds (valueOfTarget A) (L .troots)
 
     abbrev pub SourceIsSatisfiableBy : Type 0
-    SourceIsSatisfiableBy = SourceSatisfiableBy holds (L .source .rows) (L .source .bits) (L .source .side) (L .eroots)
+    SourceIsSatisfiableBy = SourceSatisfiableBy holds (arraySorts L) (L .source .rows) (L .source .bits) (L .source .side) (L .eroots)
 
     abbrev pub TargetIsSatisfiableBy : Type 0
     TargetIsSatisfiableBy = TargetSatisfiableBy holds (L .target .rows) (L .target .bits) (L .troots)

@@ -5,6 +5,8 @@ ghost use lib.ListN.{length, replicate};
 ghost use Rattle.answers.specs.Answer.{isAccepted};
 ghost use Rattle.rows.specs.declared.Graph.{Graph};
 ghost use Rattle.rows.specs.Row.{rowCount};
+ghost use Rattle.sorts.specs.Sorts.{edition, sortsOf};
+ghost use Rattle.sorts.specs.Good.{Good};
 ghost use Rattle.lowering.specs.Tables.{readCount, callCount, readClasses, callClasses, readOffsets, callOffsets};
 ghost use Rattle.lowering.specs.Lowering.{targetGraph, entries};
 ghost use Rattle.lowering.specs.Check.{firstRefusal, tableAnswers, rootAnswers};
@@ -13,11 +15,13 @@ ghost use Rattle.pairs.specs.Walk.{ReadsIn};
 ghost use Rattle.congruence.specs.Calls.{CallsIn, EqsEven};
 use answers::Answer;
 
-// 5 and 6; where both tables pass, each entry has marked its variable's class and offset.
+// 5, by the sorts of an edition, and 6; where both tables pass, each entry has marked its variable's class and offset.
 pub fn entries(
     reads: &[u64],
     calls: &[u64],
     cargs: &[u64],
+    second: bool,
+    sorts: &[u64],
     target: &[u64],
     ws: &[u64],
     cls: &mut [u64],
@@ -25,8 +29,9 @@ pub fn entries(
 ) -> Answer
     requires { ⌜ length (now cls) ≡ rowCount Graph.Target (now target) ⌝ }
     requires { ⌜ length (now ent) ≡ rowCount Graph.Target (now target) ⌝ }
-    ensures answer { λ r. ⌜ r ≡ firstRefusal (tableAnswers (entries (now (reads .entry)) (now (calls .entry)) (now (cargs .entry)))
-        (now (target .entry)) (now (ws .entry)) (now (cls .entry))) ⌝ }
+    requires { ⌜ Good (edition second (now sorts)) ⌝ }
+    ensures answer { λ r. ⌜ r ≡ firstRefusal (tableAnswers (sortsOf (edition second (now (sorts .entry)))) (entries (now (reads .entry))
+        (now (calls .entry)) (now (cargs .entry))) (now (target .entry)) (now (ws .entry)) (now (cls .entry))) ⌝ }
     ensures classes { λ r. ⌜ (isAccepted r ≡ true → now (cls .exit)
         ≡ callClasses (now (calls .entry)) (readClasses (now (reads .entry)) (now (cls .entry)) (readCount (now (reads .entry))))
         (callCount (now (calls .entry)))) ⌝ }
@@ -34,7 +39,7 @@ pub fn entries(
         ≡ callOffsets (now (calls .entry)) (readOffsets (now (reads .entry)) (now (ent .entry)) (readCount (now (reads .entry))))
         (callCount (now (calls .entry)))) ⌝ }
 {
-    let r = tables::read_entries(reads, target, ws, cls, ent);
+    let r = tables::read_entries(reads, second, sorts, target, ws, cls, ent);
     if r < tables::read_count(reads) as u64 {
         return Answer::ReadTable(r);
     }

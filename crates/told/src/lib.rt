@@ -3,17 +3,27 @@ ghost use mathlib.Core.Path.{_≡_};
 ghost use mathlib.Core.List.{[], _∷_};
 ghost use Rattle.answers.specs.Answer.{wordsOf};
 ghost use Rattle.answers.specs.Result.{told, toldOf};
-ghost use Rattle.widths.specs.Widths.{sourceWidths, targetWidths, rootsAnswer};
+ghost use Rattle.sorts.specs.Sorts.{edition};
+ghost use Rattle.rows.specs.declared.Graph.{Graph};
+ghost use Rattle.widths.specs.Widths.{graphWidths, targetWidths, rootsAnswer};
 ghost use Rattle.values.specs.Values.{values};
 ghost use Rattle.book.specs.Book.{sectionAnswer};
 use answers::Words;
 
-pub fn source_widths(source: &[u64], bits: &[u8], side: &[u64], widths: &mut [u64]) -> Words
+// Of a source whose arrays have the sorts of an edition, a second one's from its table.
+pub fn source_widths(
+    source: &[u64],
+    bits: &[u8],
+    side: &[u64],
+    second: bool,
+    sorts: &[u64],
+    widths: &mut [u64],
+) -> Words
     ensures outcome { λ r. ⌜ told r (now (widths .exit) ∷ [])
-        ≡ toldOf (sourceWidths (now (source .entry)) (now (bits .entry)) (now (side .entry))
-        (now (widths .entry))) ⌝ }
+        ≡ toldOf (graphWidths (edition second (now (sorts .entry))) Graph.Source (now (source .entry)) (now (bits .entry))
+        (now (side .entry)) (now (widths .entry))) ⌝ }
 {
-    let a = widths::source_widths(source, bits, side, widths);
+    let a = widths::source_widths(source, bits, side, second, sorts, widths);
     answers::words_of(a)
 }
 

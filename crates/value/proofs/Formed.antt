@@ -9,6 +9,7 @@ use borrow.Author.Tests.{eq-eqb, ne-eqb, eqb-true, eqb-false, le-leb, lt-ltb}
 use lib.Dec.{eqb}
 use lib.Pow.{pow-pos}
 use lib.ListN.{length, getD, List·getD-eq-default}
+use Rattle.sorts.specs.Sorts.{Sorts}
 use Rattle.bitwise.proofs.Digits.{ofBits-fits}
 use Rattle.lists.proofs.Choice.{strong}
 use Rattle.lists.proofs.Build.{build-length, build-at, build-stay}
@@ -49,7 +50,7 @@ fit-map look f (a ∷ l) (Prim.Native.Nat.suc j) = fit-map look f l j
 
 module _ (bits side : List ℕ) (width : ℕ → ℕ) (look : ℕ → Val) (i : ℕ) (agree : (a : ℕ) → a < i → wid (look a) ≡ width a) where
   -- the operator's width is the row's
-  pub core-width : (node : Node) → TagGood node → tagOf node < 37 → (tagOf node ≡ tVar → ⊥) → RowFormed (length bits) side width i node
+  pub core-width : {σ : Sorts} (node : Node) → TagGood node → tagOf node < 37 → (tagOf node ≡ tVar → ⊥) → RowFormed σ (length bits) side width i node
       → wid (coreValue bits look node) ≡ width i
   unfolding operate
   core-width (Var w) g c v r = absurd (v refl)
@@ -84,7 +85,7 @@ module _ (bits side : List ℕ) (width : ℕ → ℕ) (look : ℕ → Val) (i : 
   const-fits Unknown clean e = omega arith
 
   -- a variable has the width that it names and the number given for its row
-  var-formed : (given : ℕ → ℕ) (node : Node) → TagGood node → tagOf node ≡ tVar → RowFormed (length bits) side width i node
+  var-formed : {σ : Sorts} (given : ℕ → ℕ) (node : Node) → TagGood node → tagOf node ≡ tVar → RowFormed σ (length bits) side width i node
       → ((w : ℕ) → node ≡ Var w → given i < 2 ^ w)
       → (getD (parameters bits node) 0 0 ≡ width i) × (given i < 2 ^ getD (parameters bits node) 0 0)
   var-formed given (Var w) g e r v = (sym (r .follows), v w refl)
@@ -99,8 +100,8 @@ module _ (bits side : List ℕ) (width : ℕ → ℕ) (look : ℕ → Val) (i : 
   var-formed given Unknown g e r v = absurd (omega arith)
 
   -- a row's value, where the operands before it have their widths and fit
-  pub row-formed : (given : ℕ → ℕ) (node : Node) → ((k : ℕ) → getD bits k 0 < 2) → ((a : ℕ) → Fit (look a)) → TagGood node → tagOf node < 37
-      → RowFormed (length bits) side width i node → ((w : ℕ) → node ≡ Var w → given i < 2 ^ w)
+  pub row-formed : {σ : Sorts} (given : ℕ → ℕ) (node : Node) → ((k : ℕ) → getD bits k 0 < 2) → ((a : ℕ) → Fit (look a)) → TagGood node → tagOf node < 37
+      → RowFormed σ (length bits) side width i node → ((w : ℕ) → node ≡ Var w → given i < 2 ^ w)
       → (wid (nodeValue bits given look i node) ≡ width i) × Fit (nodeValue bits given look i node)
   row-formed given node clean fits g c r v = go (eqb (tagOf node) tVar) refl
     where
@@ -114,7 +115,7 @@ module _ (bits side : List ℕ) (width : ℕ → ℕ) (look : ℕ → Val) (i : 
           let above : 0 < wid (coreValue bits look node) = rw w (r .is-width .positive) in
           (w, operate-fits (tagOf node) (omega (arith, no)) c (parameters bits node) _ (fit-map look fits (operands node)) (const-fits node clean) above)
 
-module _ (bits side g ws : List ℕ) (given : ℕ → ℕ) (formed : WellFormed Target (length bits) side g ws)
+module _ {σ : Sorts} (bits side g ws : List ℕ) (given : ℕ → ℕ) (formed : WellFormed σ Target (length bits) side g ws)
     (clean : (k : ℕ) → getD bits k 0 < 2) (core : (i : ℕ) → i < rowCount Target g → tagOf (nodeOf (rowAt Target g i)) < 37)
     (assigns : Assigns given g) where
   -- every row's value has the row's width and lies below 2 ^ width

@@ -7,6 +7,7 @@ use native.Mathlib.Omega.{arith}
 use borrow.Author.Tests.{eqb-true, eq-eqb, ltb-true, ltb-false, not-false}
 use lib.Dec.{eqb, ltb}
 use lib.ListN.{length, getD}
+use Rattle.sorts.specs.Sorts.{plain}
 use Rattle.answers.specs.declared.Answer.the-variants.{Accepted, TooWide, ValueCount, ValueRange}
 use Rattle.answers.specs.Answer.{isAccepted}
 use Rattle.evaluate.specs.Ready.{Evaluable}
@@ -36,27 +37,27 @@ given-tests false true true a b d f e = no-way (sym e)
 given-tests false true false a b d f e = (refl, refl, refl)
 given-tests false false r a b d f e = no-way (sym e)
 
-module _ (g bits given : List ℕ) (rows : isAccepted (rowsAnswer Target g bits (illRow Target (length bits) [] g)) ≡ true)
-    (words : isAccepted (givenAnswer g (widths Target (length bits) [] g) given) ≡ true) where
-  passed : (rowCount Target g ≤ badRow Target g) × (length bits ≤ badBit bits) × (rowCount Target g ≤ illRow Target (length bits) [] g)
-  passed = rows-passed Target g bits _ rows
+module _ (g bits given : List ℕ) (rows : isAccepted (rowsAnswer Target g bits (illRow plain Target (length bits) [] g)) ≡ true)
+    (words : isAccepted (givenAnswer g (widths plain Target (length bits) [] g) given) ≡ true) where
+  passed : (rowCount Target g ≤ badRow Target g) × (length bits ≤ badBit bits) × (rowCount Target g ≤ illRow plain Target (length bits) [] g)
+  passed = rows-passed Accepted Target g bits _ rows
 
-  words-passed : (rowCount Target g ≤ wideRow (widths Target (length bits) [] g) (rowCount Target g)) × (length given ≡ rowCount Target g) × (rowCount Target g ≤ badWord g given)
+  words-passed : (rowCount Target g ≤ wideRow (widths plain Target (length bits) [] g) (rowCount Target g)) × (length given ≡ rowCount Target g) × (rowCount Target g ≤ badWord g given)
   words-passed =
-      let (p, q, r) = given-tests (ltb (wideRow (widths Target (length bits) [] g) (rowCount Target g)) (rowCount Target g)) (eqb (length given) (rowCount Target g)) (ltb (badWord g given) (rowCount Target g)) (wideRow (widths Target (length bits) [] g) (rowCount Target g)) (badWord g given) (rowCount Target g) (length given) words in
+      let (p, q, r) = given-tests (ltb (wideRow (widths plain Target (length bits) [] g) (rowCount Target g)) (rowCount Target g)) (eqb (length given) (rowCount Target g)) (ltb (badWord g given) (rowCount Target g)) (wideRow (widths plain Target (length bits) [] g) (rowCount Target g)) (badWord g given) (rowCount Target g) (length given) words in
       (ltb-false _ _ p, eqb-true _ _ q, ltb-false _ _ r)
 
-  pub width-count : length (widths Target (length bits) [] g) ≡ rowCount Target g
-  width-count = build-length (rowWidth Target (length bits) [] g) (rowCount Target g)
+  pub width-count : length (widths plain Target (length bits) [] g) ≡ rowCount Target g
+  width-count = build-length (rowWidth plain Target (length bits) [] g) (rowCount Target g)
 
   -- "Every width handed upward is therefore between 1 and 4,096" (02, 2.8)
-  pub handed : AreWidths (widths Target (length bits) [] g)
-  handed = are-widths Target (length bits) [] g (passed .2)
+  pub handed : AreWidths (widths plain Target (length bits) [] g)
+  handed = are-widths plain Target (length bits) [] g (passed .2)
 
-  narrow : (a : ℕ) → getD (widths Target (length bits) [] g) a 0 ≤ 64
+  narrow : (a : ℕ) → getD (widths plain Target (length bits) [] g) a 0 ≤ 64
   narrow =
-      getD-every (widths Target (length bits) [] g) (λ x. x ≤ 64) (omega arith)
-      (λ k h. ltb-false 64 _ (first-before (rowWide (widths Target (length bits) [] g)) (rowCount Target g) k (omega (arith, words-passed .0, width-count))))
+      getD-every (widths plain Target (length bits) [] g) (λ x. x ≤ 64) (omega arith)
+      (λ k h. ltb-false 64 _ (first-before (rowWide (widths plain Target (length bits) [] g)) (rowCount Target g) k (omega (arith, words-passed .0, width-count))))
 
   fit : (i w : ℕ) → i < rowCount Target g → nodeOf (rowAt Target g i) ≡ Var w → getD given i 0 < 2 ^ w
   fit i w h q =
@@ -64,10 +65,10 @@ module _ (g bits given : List ℕ) (rows : isAccepted (rowsAnswer Target g bits 
       let b : wordBad g given i ≡ false = first-before (wordBad g given) (rowCount Target g) i (omega (arith, words-passed .2)) in
       ltb-true _ _ (not-false _ (rw (eq-eqb _ _ t, e) at b))
 
-  pub evaluable : Evaluable g bits given (widths Target (length bits) [] g)
+  pub evaluable : Evaluable g bits given (widths plain Target (length bits) [] g)
   evaluable =
       record {
-        formed = well-formed Target (length bits) [] g (passed .2);
+        formed = well-formed plain Target (length bits) [] g (passed .2);
         narrow = narrow;
         clean = clean bits (passed .1);
         core = core-rows g (passed .0);

@@ -4,6 +4,7 @@ use mathlib.Core.Bool.{cond}
 use mathlib.Core.List.{List, [], _∷_}
 use lib.Dec.{ltb}
 use lib.ListN.{length}
+use Rattle.sorts.specs.Sorts.{plain}
 use Rattle.answers.specs.declared.Answer.{Answer}
 use Rattle.answers.specs.declared.Answer.the-variants.{RowCount, WorkShort}
 use Rattle.answers.specs.Answer.{andThen}
@@ -21,10 +22,10 @@ valuesAnswer g bits given room room-too =
     cond (ragged Target g) (RowCount (graphNumber Target))
     (cond (ltb room (rowCount Target g)) (WorkShort 1)
     (cond (ltb room-too (rowCount Target g)) (WorkShort 2)
-    (andThen (rowsAnswer Target g bits (illRow Target (length bits) [] g)) (givenAnswer g (widths Target (length bits) [] g) given))))
+    (andThen (rowsAnswer Target g bits (illRow plain Target (length bits) [] g)) (givenAnswer g (widths plain Target (length bits) [] g) given))))
 
 -- the whole outcome over the words of the target, its bits, the words given and the lists lent
 abbrev pub values : List ℕ → List ℕ → List ℕ → List ℕ → List ℕ → Result
 values g bits given ws vs =
     let a = valuesAnswer g bits given (length ws) (length vs) in
-    leaves a ((ws, widths Target (length bits) [] g) ∷ (vs, numbersTo g bits given (rowCount Target g)) ∷ [])
+    leaves a ((ws, widths plain Target (length bits) [] g) ∷ (vs, numbersTo g bits given (rowCount Target g)) ∷ [])

@@ -11,13 +11,14 @@ use Rattle.lists.specs.First.{none}
 use Rattle.lists.proofs.Choice.{taken, both}
 use Rattle.lists.proofs.First.{first-before, none-at}
 use Rattle.lists.proofs.Build.{build-length, build-stay, build-at}
+use Rattle.sorts.specs.Sorts.{Sorts}
 use Rattle.rows.specs.declared.Graph.{Graph}
 use Rattle.rows.specs.declared.Node.{Node}
 use Rattle.rows.specs.declared.Node.the-variants.{Var, Const, Un, Bin, Extract, Extend, Ite, Select, Call, Unknown}
 use Rattle.rows.specs.Row.{rowCount, rowAt}
 use Rattle.rows.specs.Tags.{tConcat, tNot, isBool}
 use Rattle.rows.specs.Node.{nodeOf, operands}
-use Rattle.rules.specs.Rule.{ceiling, capped, indexWidth, cellWidth, same, unWidth, binWidth, hasWidth, pairBad, argBad, entriesGood, chainGood, argsGood, rule, earlier, nodeWidth}
+use Rattle.rules.specs.Rule.{ceiling, capped, same, unWidth, binWidth, hasWidth, pairBad, argBad, entriesGood, chainGood, argsGood, rule, earlier, nodeWidth}
 use Rattle.wf.specs.Widths.{rowWidth, widthsTo, widths, rowIll, illRow}
 use Rattle.wf.specs.Promise.{Below, PairFormed, ArgFormed, BinFormed, Follows, IsWidth, AreWidths, RowFormed, WellFormed}
 
@@ -44,7 +45,7 @@ concat-no : (t : ℕ) → t ≡ tConcat → isBool t ≡ true → ⊥
 concat-no t q n = let e : false ≡ true = rw q at n in let z : _≡_ {A = ℕ} 0 1 = cc in omega arith
 
 -- ws are the widths of the rows before row i, and `width` agrees with them there
-module _ (nbits : ℕ) (side ws : List ℕ) (width : ℕ → ℕ) (agree : (a : ℕ) → a < length ws → getD ws a 0 ≡ width a) where
+module _ (σ : Sorts) (nbits : ℕ) (side ws : List ℕ) (width : ℕ → ℕ) (agree : (a : ℕ) → a < length ws → getD ws a 0 ≡ width a) where
   has-width : (a w : ℕ) → hasWidth ws a w ≡ true → (a < length ws) × (width a ≡ w)
   has-width a w e =
       let (h, t) = both (ltb a (length ws)) (eqb (getD ws a 0) w) e in
@@ -96,8 +97,8 @@ module _ (nbits : ℕ) (side ws : List ℕ) (width : ℕ → ℕ) (agree : (a : 
       record { within = omega arith; arg-earlier = leb-false (length ws) (getD side (s + l) 0) p }
 
   -- a node whose operands are earlier and whose rule gives a width above 0 follows it
-  follows : (node : Node) (w : ℕ) → Below (length ws) (operands node) → rule nbits side ws node ≡ w → 0 < w
-      → Follows nbits side width (length ws) node w
+  follows : (node : Node) (w : ℕ) → Below (length ws) (operands node) → rule σ nbits side ws node ≡ w → 0 < w
+      → Follows σ nbits side width (length ws) node w
   follows (Var v) w o e h = sym e
   follows (Const s v) w o e h = let (a, b) = taken (leb (s + v) nbits) v w e h in (sym b, leb-true (s + v) nbits a)
   follows (Un t a) w o e h = un-formed t (width a) w (rw (agree a (o .0)) at e) h
@@ -112,40 +113,40 @@ module _ (nbits : ℕ) (side ws : List ℕ) (width : ℕ → ℕ) (agree : (a : 
       let (u, v) = taken (eqb (width t) (width e)) (width t) w y h in
       (sym v, eqb-true (width t) (width e) u, eqb-true (width c) 1 x)
   follows (Select array j s k) w o e h =
-      let (x, y) = taken (eqb (width j) (indexWidth array)) _ w (rw (agree j (o .0)) at e) h in
-      let (u, v) = taken (chainGood (indexWidth array) (cellWidth array) ws side s k) (cellWidth array) w y h in
-      (sym v, eqb-true (width j) (indexWidth array) x, pairs-formed (indexWidth array) (cellWidth array) s k u)
+      let (x, y) = taken (eqb (width j) (σ .index array)) _ w (rw (agree j (o .0)) at e) h in
+      let (u, v) = taken (chainGood (σ .index array) (σ .cell array) ws side s k) (σ .cell array) w y h in
+      (sym v, eqb-true (width j) (σ .index array) x, pairs-formed (σ .index array) (σ .cell array) s k u)
   follows (Call f v s k) w o e h = let (x, y) = taken (argsGood ws side s k) v w e h in (sym y, args-formed s k x)
   follows Unknown w o e h = absurd (omega arith)
 
   -- a node of a width above 0
-  node-formed : (node : Node) → (nodeWidth nbits side ws node ≡ 0 → ⊥) → nodeWidth nbits side ws node ≡ width (length ws)
-      → RowFormed nbits side width (length ws) node
+  node-formed : (node : Node) → (nodeWidth σ nbits side ws node ≡ 0 → ⊥) → nodeWidth σ nbits side ws node ≡ width (length ws)
+      → RowFormed σ nbits side width (length ws) node
   node-formed node n e =
       let m : width (length ws) ≡ 0 → ⊥ = λ z. n (e ∙ z) in
       let h : 0 < width (length ws) = omega (arith, m) in
-      let (a, b) = taken (earlier (operands node) (length ws)) (capped (rule nbits side ws node)) (width (length ws)) e h in
-      let (x, y) = taken (leb (rule nbits side ws node) ceiling) (rule nbits side ws node) (width (length ws)) b h in
+      let (a, b) = taken (earlier (operands node) (length ws)) (capped (rule σ nbits side ws node)) (width (length ws)) e h in
+      let (x, y) = taken (leb (rule σ nbits side ws node) ceiling) (rule σ nbits side ws node) (width (length ws)) b h in
       let o = below (length ws) (operands node) a in
-      let is-width : IsWidth (width (length ws)) = record { positive = h; within = rw y at (leb-true (rule nbits side ws node) ceiling x) } in
+      let is-width : IsWidth (width (length ws)) = record { positive = h; within = rw y at (leb-true (rule σ nbits side ws node) ceiling x) } in
       record { earlier = o; is-width = is-width; follows = follows node (width (length ws)) o y h }
 
 -- The promise: a graph without an ill-formed row is well formed, with its widths.
-pub well-formed : (graph : Graph) (nbits : ℕ) (side g : List ℕ) → rowCount graph g ≤ illRow graph nbits side g
-    → WellFormed graph nbits side g (widths graph nbits side g)
-well-formed graph nbits side g all i h =
+pub well-formed : (σ : Sorts) (graph : Graph) (nbits : ℕ) (side g : List ℕ) → rowCount graph g ≤ illRow σ graph nbits side g
+    → WellFormed σ graph nbits side g (widths σ graph nbits side g)
+well-formed σ graph nbits side g all i h =
     rw (build-length f i) at
-    (node-formed nbits side (widthsTo graph nbits side g i) (λ a. getD (widths graph nbits side g) a 0)
+    (node-formed σ nbits side (widthsTo σ graph nbits side g i) (λ a. getD (widths σ graph nbits side g) a 0)
     (λ a l. sym (build-stay f 0 (rowCount graph g) i a (rw (build-length f i) at l) (omega arith)))
     (nodeOf (rowAt graph g i))
-    (eqb-false _ 0 (first-before (rowIll graph nbits side g) (rowCount graph g) i (omega arith)))
-    (sym (ap (λ (z : ℕ). getD (widths graph nbits side g) z 0) (build-length f i) ∙ build-at f 0 (rowCount graph g) i h)))
+    (eqb-false _ 0 (first-before (rowIll σ graph nbits side g) (rowCount graph g) i (omega arith)))
+    (sym (ap (λ (z : ℕ). getD (widths σ graph nbits side g) z 0) (build-length f i) ∙ build-at f 0 (rowCount graph g) i h)))
   where
     f : ℕ → List ℕ → ℕ
-    f = rowWidth graph nbits side g
+    f = rowWidth σ graph nbits side g
 
 -- and every width that is handed upward lies between 1 and the ceiling
-pub are-widths : (graph : Graph) (nbits : ℕ) (side g : List ℕ) → rowCount graph g ≤ illRow graph nbits side g
-    → AreWidths (widths graph nbits side g)
-are-widths graph nbits side g all i h =
-    well-formed graph nbits side g all i (rw (build-length (rowWidth graph nbits side g) (rowCount graph g)) at h) .is-width
+pub are-widths : (σ : Sorts) (graph : Graph) (nbits : ℕ) (side g : List ℕ) → rowCount graph g ≤ illRow σ graph nbits side g
+    → AreWidths (widths σ graph nbits side g)
+are-widths σ graph nbits side g all i h =
+    well-formed σ graph nbits side g all i (rw (build-length (rowWidth σ graph nbits side g) (rowCount graph g)) at h) .is-width

@@ -6,29 +6,30 @@ use lib.Dec.{eqb}
 use lib.ListN.{length, getD}
 use Rattle.lists.specs.First.{first}
 use Rattle.lists.specs.Build.{build}
+use Rattle.sorts.specs.Sorts.{Sorts}
 use Rattle.rows.specs.declared.Graph.{Graph}
 use Rattle.rows.specs.Row.{rowCount, rowAt}
 use Rattle.rows.specs.Node.{nodeOf}
 use Rattle.rules.specs.Rule.{nodeWidth, hasWidth}
 
--- the width of row i after rows of widths ws
-abbrev pub rowWidth : Graph → ℕ → List ℕ → List ℕ → ℕ → List ℕ → ℕ
-rowWidth graph nbits side g i ws = nodeWidth nbits side ws (nodeOf (rowAt graph g i))
+-- the width of row i after rows of widths ws, where σ are the sorts of the arrays
+abbrev pub rowWidth : Sorts → Graph → ℕ → List ℕ → List ℕ → ℕ → List ℕ → ℕ
+rowWidth σ graph nbits side g i ws = nodeWidth σ nbits side ws (nodeOf (rowAt graph g i))
 
 -- the widths of the first n rows, 0 for an ill-formed one
-abbrev pub widthsTo : Graph → ℕ → List ℕ → List ℕ → ℕ → List ℕ
-widthsTo graph nbits side g n = build (rowWidth graph nbits side g) n
+abbrev pub widthsTo : Sorts → Graph → ℕ → List ℕ → List ℕ → ℕ → List ℕ
+widthsTo σ graph nbits side g n = build (rowWidth σ graph nbits side g) n
 
-abbrev pub rowIll : Graph → ℕ → List ℕ → List ℕ → ℕ → Bool
-rowIll graph nbits side g i = eqb (rowWidth graph nbits side g i (widthsTo graph nbits side g i)) 0
+abbrev pub rowIll : Sorts → Graph → ℕ → List ℕ → List ℕ → ℕ → Bool
+rowIll σ graph nbits side g i = eqb (rowWidth σ graph nbits side g i (widthsTo σ graph nbits side g i)) 0
 
 -- the first ill-formed row, or the number of rows
-abbrev pub illRow : Graph → ℕ → List ℕ → List ℕ → ℕ
-illRow graph nbits side g = first (rowIll graph nbits side g) (rowCount graph g)
+abbrev pub illRow : Sorts → Graph → ℕ → List ℕ → List ℕ → ℕ
+illRow σ graph nbits side g = first (rowIll σ graph nbits side g) (rowCount graph g)
 
 -- the widths of all rows
-abbrev pub widths : Graph → ℕ → List ℕ → List ℕ → List ℕ
-widths graph nbits side g = widthsTo graph nbits side g (rowCount graph g)
+abbrev pub widths : Sorts → Graph → ℕ → List ℕ → List ℕ → List ℕ
+widths σ graph nbits side g = widthsTo σ graph nbits side g (rowCount graph g)
 
 -- 19: "a row past the widths or a width not 1"
 abbrev pub rootBad : List ℕ → List ℕ → ℕ → Bool

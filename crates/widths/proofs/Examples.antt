@@ -3,6 +3,7 @@ use Prim.Native.Nat.{ℕ}
 use mathlib.Core.Path.{_≡_, refl}
 use mathlib.Core.List.{List, [], _∷_, _++_}
 use lib.ListN.{replicate}
+use Rattle.sorts.specs.Sorts.{plain}
 use Rattle.answers.specs.declared.Answer.the-variants.{Accepted, Ext, Core, RowCount, BadRow, BadBit, WorkShort, BadRoot}
 use Rattle.lists.specs.First.{first}
 use Rattle.lists.specs.Build.{build}
@@ -116,7 +117,7 @@ wide-call : sourceWidths (s5 38 3 4097 0 0 []) [] [] (junk 1) ≡ result (Ext 0)
 unfolding first build
 wide-call = refl
 
-wide-const : illRow Target 4097 [] (t4 1 0 4096 0 (t4 1 0 4097 0 [])) ≡ 1
+wide-const : illRow plain Target 4097 [] (t4 1 0 4096 0 (t4 1 0 4097 0 [])) ≡ 1
 unfolding first build
 wide-const = refl
 

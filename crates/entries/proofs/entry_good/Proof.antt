@@ -1,9 +1,12 @@
 -- Cut, its variable, its own tests: the definition's order. Assumes nothing.
+use Prim.Native.Nat.{_+_, _*_, _≤_}
 use mathlib.Core.Path.{_∙_, sym}
 use native.Mathlib.Omega.{arith}
-use borrow.Author.Needs.{needs}
 use borrow.Author.Tests.{not-true, not-false}
+use lib.ListN.{length}
+use Rattle.entries.specs.Entries.{stride}
 use Rattle.entries.proofs.Entry.{good-cut, whole-at, good-taken, good-own}
+use borrow.Author.Needs.{needs}
 use Rattle.entries.proofs.entry_good.Statement.{statement}
 use Rattle.entries.proofs.entry_good.Tie as tie
 
@@ -13,7 +16,20 @@ sub-if1 c = search needs
 returns : tie.Need-returns
 returns c =
     let p = c .before .before .before .before .before .before in
-    good-cut (p .args .which) _ _ _ _ _ _ (p .args .w) (p .args .off) (p .pre .0 .0) (p .pre .0 .1) (omega arith)
+    good-cut (p .args .which) (p .args .second) _ _ _ _ _ _ (p .args .w) (p .args .off) (p .pre .0 .0) (p .pre .0 .1) (omega arith)
+
+-- the entry is whole
+whole : (c : tie.Else1)
+    → let s = c .before .before .before .before .before .before .args in
+    s .k * stride (s .which) + stride (s .which) ≤ length (s .table .now)
+whole c =
+    let p = c .before .before .before .before .before .before in
+    let s = p .args in
+    whole-at (s .which) (s .second) (s .table .now) (s .beside .now) (s .target .now) (s .ws .now) (s .cls .now) (s .k) (s .w) (s .off) (p .pre .0 .0) (p .pre .0 .1)
+    (omega arith)
+
+sort-in-requires : tie.Need-sort-in-requires
+sort-in-requires c κs = (whole c, c .before .before .before .before .before .before .pre .1 .0)
 
 mul-free-var : tie.Need-mul-free-var
 mul-free-var c = search needs
@@ -26,22 +42,25 @@ free-var-requires c κs = search needs
 
 returns-2 : tie.Need-returns-2
 returns-2 c =
-    let p = c .before .before .before .before .before .before .before .before .before in
-    good-taken (p .args .which) _ _ _ _ _ _ (p .args .w) (p .args .off) (p .pre .0 .0) (p .pre .0 .1) (omega arith)
-    (sym (c .before .free-var .ensures) ∙ not-true _ (c .if2 .taken))
+    let q = c .before .before .before in
+    let p = q .before .before .before .before .before .before .before in
+    good-taken (p .args .which) (p .args .second) _ _ _ _ _ _ (p .args .w) (p .args .off) (p .pre .0 .0) (p .pre .0 .1) (omega arith)
+    (rw (q .sort-in .ensures .1) at (sym (c .before .free-var .ensures) ∙ not-true _ (c .if2 .taken)))
 
 own-good-requires : tie.Need-own-good-requires
 own-good-requires c κs =
-    let p = c .before .before .before .before .before .before .before .before .before in
-    (whole-at (p .args .which) (p .args .table .now) (p .args .cargs .now) (p .args .target .now) (p .args .ws .now) (p .args .cls .now) (p .args .k) (p .args .w) (p .args .off) (p .pre .0 .0) (p .pre .0 .1) (omega arith), p .pre .1 .0)
+    let q = c .before .before .before in
+    let p = q .before .before .before .before .before .before .before in
+    (whole (q .before), p .pre .1 .1 .0)
 
 returns-3 : tie.Need-returns-3
 returns-3 c =
-    let p = c .before .before .before .before .before .before .before .before .before .before in
-    c .own-good .ensures
-    ∙ rw (p .pre .1 .1)
-    (good-own (p .args .which) _ _ _ _ _ _ (p .args .w) (p .args .off) (p .pre .0 .0) (p .pre .0 .1) (omega arith)
-    (sym (c .before .before .free-var .ensures) ∙ not-false _ (c .before .if2 .left)))
+    let q = c .before .before .before .before in
+    let p = q .before .before .before .before .before .before .before in
+    rw (q .sort-in .ensures .0) at (c .own-good .ensures)
+    ∙ rw (p .pre .1 .1 .1)
+    (good-own (p .args .which) (p .args .second) _ _ _ _ _ _ (p .args .w) (p .args .off) (p .pre .0 .0) (p .pre .0 .1) (omega arith)
+    (rw (q .sort-in .ensures .1) at (sym (c .before .before .free-var .ensures) ∙ not-false _ (c .before .if2 .left))))
 
 pub entry-good-spec : {M : Type 1} → statement M
 entry-good-spec =
@@ -49,6 +68,7 @@ entry-good-spec =
     (tie.spec
     sub-if1
     returns
+    sort-in-requires
     mul-free-var
     shared-slice-read-free-var
     free-var-requires

@@ -1,13 +1,27 @@
--- The six tests in their order; a law for each refusal. No row before a stop is badly encoded. Assumes nothing.
-use mathlib.Core.Path.{sym}
+-- The seven tests in their order; a law for each refusal. No row before a stop is badly encoded. Assumes nothing.
+use Prim.Native.Nat.{_≤_}
+use mathlib.Core.Path.{_≡_, sym, _∙_}
+use mathlib.Core.Bool.{true}
 use mathlib.Core.List.{[]}
 use native.Mathlib.Omega.{arith}
+use borrow.Author.Tests.{not-true, not-false}
+use lib.ListN.{length}
+use Rattle.answers.specs.Answer.{isAccepted}
 use Rattle.rows.specs.declared.Graph.the-variants.{Source, Target}
-use Rattle.lowering.specs.Lowering.{sourceGraph, targetGraph}
-use Rattle.forms.proofs.Form.{bad-row-le, bad-source, bad-target, bit-source, bit-target, ill-source, ill-target, graphs-good}
+use Rattle.rows.specs.Row.{rowCount}
+use Rattle.encoding.specs.Encoding.{badRow, badBit}
+use Rattle.lowering.specs.Lowering.{SourceGraph, TargetGraph, sourceGraph, targetGraph}
+use Rattle.forms.proofs.Form.{bad-row-le, bad-source, bad-target, bit-source, bit-target, unsorted, ill-source, ill-target, graphs-good}
 use borrow.Author.Needs.{needs}
 use Rattle.forms.proofs.graph_answer.Statement.{statement}
 use Rattle.forms.proofs.graph_answer.Tie as tie
+
+-- the two graphs at the start
+abbrev source : tie.Start → SourceGraph
+source c = sourceGraph (c .args .source .now) (c .args .ebits .now) []
+
+abbrev target : tie.Start → TargetGraph
+target c = targetGraph (c .args .target .now) (c .args .tbits .now)
 
 bad-row-requires : tie.Need-bad-row-requires
 bad-row-requires c κs = search needs
@@ -17,8 +31,10 @@ row-count-requires c κs = search needs
 
 returns : tie.Need-returns
 returns c =
-    let s = c .before .before .before .before .before .before .before .args in
-    rw (c .before .before .bad-row .ensures) (sym (bad-source (sourceGraph (s .source .now) (s .ebits .now) []) (targetGraph (s .target .now) (s .tbits .now)) _ _ (rw (c .before .before .bad-row .ensures, c .before .row-count .ensures) at (c .if1 .taken))))
+    let row = c .before .before in
+    let start = row .before .before .before .before .before in
+    rw (row .bad-row .ensures)
+    (sym (bad-source (start .args .sort) (source start) (target start) _ _ (rw (row .bad-row .ensures, c .before .row-count .ensures) at (c .if1 .taken))))
 
 bad-row-requires-2 : tie.Need-bad-row-requires-2
 bad-row-requires-2 c κs = search needs
@@ -26,79 +42,109 @@ bad-row-requires-2 c κs = search needs
 row-count-requires-2 : tie.Need-row-count-requires-2
 row-count-requires-2 c κs = search needs
 
+-- the source's rows are good; then the target's, the source's bits, the target's bits
+rows-0 : (c : tie.Else1) → rowCount Source (source (c .before .before .before .before .before .before .before) .rows) ≤ badRow Source (source (c .before .before .before .before .before .before .before) .rows)
+rows-0 c = rw (c .before .before .bad-row .ensures, c .before .row-count .ensures) at (c .if1 .left)
+
 returns-2 : tie.Need-returns-2
 returns-2 c =
-    let s = c .before .before .before .before .before .before .before .before .before .before .args in
-    rw (c .before .before .bad-row2 .ensures) (sym (bad-target (sourceGraph (s .source .now) (s .ebits .now) []) (targetGraph (s .target .now) (s .tbits .now)) _ _ (rw (c .before .before .before .before .before .bad-row .ensures, c .before .before .before .before .row-count .ensures) at (c .before .before .before .if1 .left)) (rw (c .before .before .bad-row2 .ensures, c .before .row-count2 .ensures) at (c .if2 .taken))))
+    let row = c .before .before in
+    let start = row .before .before .before .before .before .before .before .before in
+    rw (row .bad-row2 .ensures)
+    (sym (bad-target (start .args .sort) (source start) (target start) _ _ (rows-0 (row .before))
+    (rw (row .bad-row2 .ensures, c .before .row-count2 .ensures) at (c .if2 .taken))))
 
 bad-bit-requires : tie.Need-bad-bit-requires
 bad-bit-requires c κs = search needs
 
+rows-1 : (c : tie.Else2) → rowCount Target (target (c .before .before .before .before .before .before .before .before .before .before) .rows) ≤ badRow Target (target (c .before .before .before .before .before .before .before .before .before .before) .rows)
+rows-1 c = rw (c .before .before .bad-row2 .ensures, c .before .row-count2 .ensures) at (c .if2 .left)
+
 returns-3 : tie.Need-returns-3
 returns-3 c =
-    let at-row-count = c .before .before .before .before .before .before in
-    let at-bad-row = at-row-count .before in
-    let at-start = at-bad-row .before .before .before .before .before in
-    let s = at-start .args in
-    rw (c .before .bad-bit .ensures) (sym (bit-source (sourceGraph (s .source .now) (s .ebits .now) []) (targetGraph (s .target .now) (s .tbits .now)) _ _ (rw (at-bad-row .bad-row .ensures, at-row-count .row-count .ensures) at (c .before .before .before .before .before .if1 .left)) (rw (c .before .before .before .before .bad-row2 .ensures, c .before .before .before .row-count2 .ensures) at (c .before .before .if2 .left)) (rw (c .before .bad-bit .ensures) at (c .if3 .taken))))
+    let rows = c .before .before in
+    let start = rows .before .before .before .before .before .before .before .before .before .before in
+    rw (c .before .bad-bit .ensures)
+    (sym (bit-source (start .args .sort) (source start) (target start) _ _ (rows-0 (rows .before .before .before)) (rows-1 rows)
+    (rw (c .before .bad-bit .ensures) at (c .if3 .taken))))
 
 bad-bit-requires-2 : tie.Need-bad-bit-requires-2
 bad-bit-requires-2 c κs = search needs
 
+bits-0 : (c : tie.Else3) → length (source (c .before .before .before .before .before .before .before .before .before .before .before .before) .bits) ≤ badBit (source (c .before .before .before .before .before .before .before .before .before .before .before .before) .bits)
+bits-0 c = rw (c .before .bad-bit .ensures) at (c .if3 .left)
+
 returns-4 : tie.Need-returns-4
 returns-4 c =
-    let at-bad-row2 = c .before .before .before .before .before .before in
-    let at-else1 = at-bad-row2 .before in
-    let at-row-count = at-else1 .before in
-    let at-bad-row = at-row-count .before in
-    let at-start = at-bad-row .before .before .before .before .before in
-    let s = at-start .args in
-    rw (c .before .bad-bit2 .ensures) (sym (bit-target (sourceGraph (s .source .now) (s .ebits .now) []) (targetGraph (s .target .now) (s .tbits .now)) _ _ (rw (at-bad-row .bad-row .ensures, at-row-count .row-count .ensures) at (at-else1 .if1 .left)) (rw (at-bad-row2 .bad-row2 .ensures, c .before .before .before .before .before .row-count2 .ensures) at (c .before .before .before .before .if2 .left)) (rw (c .before .before .before .bad-bit .ensures) at (c .before .before .if3 .left)) (rw (c .before .bad-bit2 .ensures) at (c .if4 .taken))))
+    let bits = c .before .before in
+    let rows = bits .before .before in
+    let start = rows .before .before .before .before .before .before .before .before .before .before in
+    rw (c .before .bad-bit2 .ensures)
+    (sym (bit-target (start .args .sort) (source start) (target start) _ _ (rows-0 (rows .before .before .before)) (rows-1 rows) (bits-0 bits)
+    (rw (c .before .bad-bit2 .ensures) at (c .if4 .taken))))
+
+is-accepted-requires : tie.Need-is-accepted-requires
+is-accepted-requires c κs = search needs
+
+-- where all of them are good: the laws that come after
+abbrev coded : tie.Else4 → tie.Else2
+coded c = c .before .before .before .before
+
+bits-1 : (c : tie.Else4) → length (target (c .before .before .before .before .before .before .before .before .before .before .before .before .before .before) .bits) ≤ badBit (target (c .before .before .before .before .before .before .before .before .before .before .before .before .before .before) .bits)
+bits-1 c = rw (c .before .bad-bit2 .ensures) at (c .if4 .left)
 
 returns-5 : tie.Need-returns-5
 returns-5 c =
-    let at-row-count2 = c .before .before .before .before .before .before in
-    let at-bad-row2 = at-row-count2 .before in
-    let at-else1 = at-bad-row2 .before in
-    let at-row-count = at-else1 .before in
-    let at-bad-row = at-row-count .before in
-    let at-start = at-bad-row .before .before .before .before .before in
-    let s = at-start .args in
-    let l = bad-row-le Source (s .source .now) in
-    let h = rw (at-bad-row .bad-row .ensures) at (c .if5 .taken) in
-    sym (ill-source (sourceGraph (s .source .now) (s .ebits .now) []) (targetGraph (s .target .now) (s .tbits .now)) _ _ (rw (at-bad-row .bad-row .ensures, at-row-count .row-count .ensures) at (at-else1 .if1 .left)) (rw (at-bad-row2 .bad-row2 .ensures, at-row-count2 .row-count2 .ensures) at (c .before .before .before .before .before .if2 .left)) (rw (c .before .before .before .before .bad-bit .ensures) at (c .before .before .before .if3 .left)) (rw (c .before .before .bad-bit2 .ensures) at (c .before .if4 .left)) (omega arith))
+    let bits = c .before .before in
+    let rows = coded bits in
+    let start = rows .before .before .before .before .before .before .before .before .before .before in
+    sym (unsorted (start .args .sort) (source start) (target start) _ _ (rows-0 (rows .before .before .before)) (rows-1 rows) (bits-0 (bits .before .before)) (bits-1 bits)
+    (sym (c .before .is-accepted .ensures) ∙ not-true _ (c .if5 .taken)))
+
+sorted : (c : tie.Else5) → isAccepted (c .before .before .before .before .before .before .before .before .before .before .before .before .before .before .before .before .args .sort) ≡ true
+sorted c = sym (c .before .is-accepted .ensures) ∙ not-false _ (c .if5 .left)
 
 returns-6 : tie.Need-returns-6
 returns-6 c =
-    let at-else2 = c .before .before .before .before .before .before in
-    let at-row-count2 = at-else2 .before in
-    let at-bad-row2 = at-row-count2 .before in
-    let at-else1 = at-bad-row2 .before in
-    let at-row-count = at-else1 .before in
-    let at-bad-row = at-row-count .before in
-    let at-start = at-bad-row .before .before .before .before .before in
-    let s = at-start .args in
-    let l = bad-row-le Target (s .target .now) in
-    let h = rw (at-bad-row2 .bad-row2 .ensures) at (c .if6 .taken) in
-    let e = rw (at-bad-row .bad-row .ensures) at (c .before .if5 .left) in
-    let f = (rw (at-bad-row .bad-row .ensures, at-row-count .row-count .ensures) at (at-else1 .if1 .left)) in
-    sym (ill-target (sourceGraph (s .source .now) (s .ebits .now) []) (targetGraph (s .target .now) (s .tbits .now)) _ _ f (rw (at-bad-row2 .bad-row2 .ensures, at-row-count2 .row-count2 .ensures) at (at-else2 .if2 .left)) (rw (c .before .before .before .before .before .bad-bit .ensures) at (c .before .before .before .before .if3 .left)) (rw (c .before .before .before .bad-bit2 .ensures) at (c .before .before .if4 .left)) (omega arith) (omega arith))
+    let table = c .before in
+    let bits = table .before .before in
+    let rows = coded bits in
+    let start = rows .before .before .before .before .before .before .before .before .before .before in
+    let row = rows .before .before .before .before .before in
+    let l = bad-row-le Source (start .args .source .now) in
+    let h = rw (row .bad-row .ensures) at (c .if6 .taken) in
+    sym (ill-source (start .args .sort) (source start) (target start) _ _ (rows-0 (rows .before .before .before)) (rows-1 rows) (bits-0 (bits .before .before)) (bits-1 bits)
+    (sorted table) (omega arith))
 
 returns-7 : tie.Need-returns-7
 returns-7 c =
-    let at-else2 = c .before .before .before .before .before .before in
-    let at-row-count2 = at-else2 .before in
-    let at-bad-row2 = at-row-count2 .before in
-    let at-else1 = at-bad-row2 .before in
-    let at-row-count = at-else1 .before in
-    let at-bad-row = at-row-count .before in
-    let at-start = at-bad-row .before .before .before .before .before in
-    let s = at-start .args in
-    let h = rw (at-bad-row2 .bad-row2 .ensures) at (c .if6 .left) in
-    let e = rw (at-bad-row .bad-row .ensures) at (c .before .if5 .left) in
-    let f = (rw (at-bad-row .bad-row .ensures, at-row-count .row-count .ensures) at (at-else1 .if1 .left)) in
-    let g = (rw (at-bad-row2 .bad-row2 .ensures, at-row-count2 .row-count2 .ensures) at (at-else2 .if2 .left)) in
-    sym (graphs-good (sourceGraph (s .source .now) (s .ebits .now) []) (targetGraph (s .target .now) (s .tbits .now)) _ _ f g (rw (c .before .before .before .before .before .bad-bit .ensures) at (c .before .before .before .before .if3 .left)) (rw (c .before .before .before .bad-bit2 .ensures) at (c .before .before .if4 .left)) (omega arith) (omega arith))
+    let table = c .before .before in
+    let bits = table .before .before in
+    let rows = coded bits in
+    let start = rows .before .before .before .before .before .before .before .before .before .before in
+    let row0 = rows .before .before .before .before .before in
+    let row1 = rows .before .before in
+    let l = bad-row-le Target (start .args .target .now) in
+    let h = rw (row1 .bad-row2 .ensures) at (c .if7 .taken) in
+    let e = rw (row0 .bad-row .ensures) at (c .before .if6 .left) in
+    let f = rows-0 (rows .before .before .before) in
+    let g = rows-1 rows in
+    sym (ill-target (start .args .sort) (source start) (target start) _ _ f g (bits-0 (bits .before .before)) (bits-1 bits) (sorted table) (omega arith) (omega arith))
+
+returns-8 : tie.Need-returns-8
+returns-8 c =
+    let table = c .before .before in
+    let bits = table .before .before in
+    let rows = coded bits in
+    let start = rows .before .before .before .before .before .before .before .before .before .before in
+    let row0 = rows .before .before .before .before .before in
+    let row1 = rows .before .before in
+    let l = bad-row-le Target (start .args .target .now) in
+    let h = rw (row1 .bad-row2 .ensures) at (c .if7 .left) in
+    let e = rw (row0 .bad-row .ensures) at (c .before .if6 .left) in
+    let f = rows-0 (rows .before .before .before) in
+    let g = rows-1 rows in
+    sym (graphs-good (start .args .sort) (source start) (target start) _ _ f g (bits-0 (bits .before .before)) (bits-1 bits) (sorted table) (omega arith) (omega arith))
 
 pub graph-answer-spec : {M : Type 1} → statement M
 graph-answer-spec =
@@ -114,6 +160,8 @@ graph-answer-spec =
     returns-3
     bad-bit-requires-2
     returns-4
+    is-accepted-requires
     returns-5
     returns-6
-    returns-7)
+    returns-7
+    returns-8)

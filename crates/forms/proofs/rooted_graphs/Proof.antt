@@ -6,6 +6,7 @@ use borrow.Author.Tests.{not-true, not-false}
 use lib.ListN.{length}
 use lib.Seq.{length-take-le}
 use Rattle.answers.specs.Answer.{isAccepted}
+use Rattle.sorts.specs.Sorts.{Edition, edition, plain, sortsOf}
 use Rattle.rows.specs.declared.Graph.the-variants.{Source, Target}
 use Rattle.lowering.specs.Lowering.{SourceGraph, TargetGraph, sourceGraph, targetGraph}
 use Rattle.forms.proofs.Form.{widths-front, graphs-refused, roots-asked}
@@ -13,9 +14,12 @@ use borrow.Author.Needs.{needs}
 use Rattle.forms.proofs.rooted_graphs.Statement.{statement}
 use Rattle.forms.proofs.rooted_graphs.Tie as tie
 
--- the start, and the two graphs there
+-- the start, the edition and the two graphs there
 abbrev start : tie.After-graphs → tie.Start
-start c = let lists = c .before .before .before .before .before in lists .before .before .before .before .before .before .before
+start c = let lists = c .before .before .before .before .before in lists .before .before .before .before .before .before .before .before
+
+abbrev of : tie.Start → Edition
+of c = edition (c .args .second) (c .args .sorts .now)
 
 abbrev source : tie.Start → SourceGraph
 source c = sourceGraph (c .args .source .now) (c .args .ebits .now) (c .args .eside .now)
@@ -41,7 +45,7 @@ returns c =
     let at-start = start at-graphs in
     let s = at-start .args in
     let g = at-graphs .graphs .ensures in
-    (graphs-refused (s .strict) (source at-start) (target at-start) (s .eroots .now) (s .troots .now) _ (g .0) (sym (c .before .is-accepted .ensures) ∙ not-true _ (c .if1 .taken)), g .1)
+    (graphs-refused (s .strict) (of at-start) (source at-start) (target at-start) (s .eroots .now) (s .troots .now) _ (g .0) (sym (c .before .is-accepted .ensures) ∙ not-true _ (c .if1 .taken)), g .1)
 
 row-count-requires : tie.Need-row-count-requires
 row-count-requires c κs = search needs
@@ -79,9 +83,9 @@ returns-2 c =
     let s = at-start .args in
     let g = at-graphs .graphs .ensures in
     let ok : isAccepted (at-graphs .graphs .result) ≡ true = sym (at-else .before .is-accepted .ensures) ∙ not-false _ (at-else .if1 .left) in
-    let ws0 = widths-front Source (length (s .ebits .now)) _ (s .eside .now) (s .source .now) _ _ (at-source .row-count .ensures) (g .1 .0 ok) in
-    let ws1 = widths-front Target (length (s .tbits .now)) _ [] (s .target .now) _ _ (c .before .before .before .row-count2 .ensures) (g .1 .1 ok) in
-    (roots-asked (s .strict) (source at-start) (target at-start) (s .eroots .now) (s .troots .now) _ (g .0) ok _ _ _ (c .root-answer .ensures) ws0 ws1, (λ h. g .1 .0 ok, λ h. g .1 .1 ok))
+    let ws0 = widths-front (sortsOf (of at-start)) Source (length (s .ebits .now)) _ (s .eside .now) (s .source .now) _ _ (at-source .row-count .ensures) (g .1 .0 ok) in
+    let ws1 = widths-front plain Target (length (s .tbits .now)) _ [] (s .target .now) _ _ (c .before .before .before .row-count2 .ensures) (g .1 .1 ok) in
+    (roots-asked (s .strict) (of at-start) (source at-start) (target at-start) (s .eroots .now) (s .troots .now) _ (g .0) ok _ _ _ (c .root-answer .ensures) ws0 ws1, (λ h. g .1 .0 ok, λ h. g .1 .1 ok))
 
 pub rooted-graphs-spec : {M : Type 1} → statement M
 rooted-graphs-spec =

@@ -5,12 +5,13 @@ use mathlib.Core.Bool.{true}
 use lib.ListN.{length, length-replicate}
 use mathlib.Core.List.{[]}
 use borrow.Author.Tests.{not-true, not-false}
+use Rattle.sorts.specs.Sorts.{edition, plain}
 use Rattle.images.proofs.Constants.{bits-within}
 use Rattle.images.proofs.Equality.{eqs-even}
 use Rattle.lists.proofs.Choice.{no-way}
 use Rattle.rows.specs.declared.Graph.the-variants.{Target}
 use Rattle.answers.specs.Answer.{isAccepted}
-use Rattle.lowering.specs.Lowering.{Lowering, lowering, sourceRows}
+use Rattle.lowering.specs.Lowering.{Lowering, loweringIn, sourceRows}
 use Rattle.lowered.proofs.MatchLaws.{map-3, tables-done, rows-done, dead-done, roots-done, passed-tables, reads-inside, calls-inside}
 use Rattle.wf.specs.Widths.{widths}
 use borrow.Author.Needs.{needs}
@@ -19,13 +20,13 @@ use Rattle.lowered.proofs.matches.Tie as tie
 
 -- the start, from the first place past what is known of the lists
 abbrev start : tie.After-row-count → tie.Start
-start c = let lists = c .before .before .before .before .before .before .before .before in lists .before .before .before .before .before .before .before
+start c = let lists = c .before .before .before .before .before .before .before .before in lists .before .before .before .before .before .before .before .before
 
 abbrev input : tie.Start → Lowering
 input c =
     let s = c .args in
-    lowering (s .source .now) (s .ebits .now) (s .eside .now) (s .eroots .now) (s .map .now) (s .reads .now) (s .calls .now) (s .cargs .now) (s .target .now)
-    (s .tbits .now) (s .troots .now)
+    loweringIn (edition (s .second) (s .sorts .now)) (s .source .now) (s .ebits .now) (s .eside .now) (s .eroots .now) (s .map .now) (s .reads .now)
+    (s .calls .now) (s .cargs .now) (s .target .now) (s .tbits .now) (s .troots .now)
 
 -- the place of the stage before: the rows', the tables', the map's, and the start
 abbrev rowed : tie.After-ext-rows → tie.Else2
@@ -61,7 +62,7 @@ entries-requires c κs =
     let at-row-count = c .before .before .before in
     let at-start = start at-row-count in
     let p = at-start .pre in
-    (ap length (p .1 .1 .0) ∙ length-replicate {A = ℕ} _ 0, ap length (p .1 .1 .1) ∙ length-replicate {A = ℕ} _ 0)
+    (ap length (p .1 .1 .0) ∙ length-replicate {A = ℕ} _ 0, (ap length (p .1 .1 .1 .0) ∙ length-replicate {A = ℕ} _ 0, p .1 .1 .1 .1))
 
 is-accepted-requires : tie.Need-is-accepted-requires
 is-accepted-requires c κs = search needs
@@ -78,7 +79,7 @@ returns-2 c =
     let at-start = entry at-entries in
     let p = at-start .pre in
     let L = input at-start in
-    tables-done L _ _ _ (p .1 .0) (p .1 .1 .0) (p .1 .1 .1) _ _ _ (at-entries .entries .ensures .0) (at-entries .entries .ensures .1 .0) (at-entries .entries .ensures .1 .1) (map-fits at-entries) (sym (c .before .is-accepted .ensures) ∙ not-true _ (c .if2 .taken))
+    tables-done L _ _ _ (p .1 .0) (p .1 .1 .0) (p .1 .1 .1 .0) _ _ _ (at-entries .entries .ensures .0) (at-entries .entries .ensures .1 .0) (at-entries .entries .ensures .1 .1) (map-fits at-entries) (sym (c .before .is-accepted .ensures) ∙ not-true _ (c .if2 .taken))
 
 ext-rows-requires : tie.Need-ext-rows-requires
 ext-rows-requires c κs =
@@ -86,7 +87,7 @@ ext-rows-requires c κs =
     let at-start = entry at-entries in
     let p = at-start .pre in
     let k = at-entries .entries .kept in
-    (p .0, (k .1 .1 .1 .1 .1 .1 .0 ∙ ap length (p .1 .1 .1) ∙ length-replicate {A = ℕ} _ 0, k .1 .1 .1 .1 .1 .0 ∙ ap length (p .1 .1 .0) ∙ length-replicate {A = ℕ} _ 0))
+    (p .0, (k .1 .1 .1 .1 .1 .1 .1 .1 .0 ∙ ap length (p .1 .1 .1 .0) ∙ length-replicate {A = ℕ} _ 0, k .1 .1 .1 .1 .1 .1 .1 .0 ∙ ap length (p .1 .1 .0) ∙ length-replicate {A = ℕ} _ 0))
 
 is-accepted-requires-2 : tie.Need-is-accepted-requires-2
 is-accepted-requires-2 c κs = search needs
@@ -104,7 +105,7 @@ returns-3 c =
     let at-start = entry at-entries in
     let p = at-start .pre in
     let L = input at-start in
-    rows-done L _ _ _ (p .1 .0) (p .1 .1 .0) (p .1 .1 .1) _ _ _ (at-entries .entries .ensures .0) (at-entries .entries .ensures .1 .0) (at-entries .entries .ensures .1 .1) (map-fits at-entries) (tables-accepted at-else2) _ _ (c .before .before .before .before .ext-rows .ensures .0) (c .before .before .before .before .ext-rows .ensures .1) (sym (c .before .is-accepted2 .ensures) ∙ not-true _ (c .if3 .taken))
+    rows-done L _ _ _ (p .1 .0) (p .1 .1 .0) (p .1 .1 .1 .0) _ _ _ (at-entries .entries .ensures .0) (at-entries .entries .ensures .1 .0) (at-entries .entries .ensures .1 .1) (map-fits at-entries) (tables-accepted at-else2) _ _ (c .before .before .before .before .ext-rows .ensures .0) (c .before .before .before .before .ext-rows .ensures .1) (sym (c .before .is-accepted2 .ensures) ∙ not-true _ (c .if3 .taken))
 
 dead-entry-requires : tie.Need-dead-entry-requires
 dead-entry-requires c κs = search needs
@@ -123,7 +124,7 @@ returns-4 c =
     let at-start = entry at-entries in
     let p = at-start .pre in
     let L = input at-start in
-    dead-done L _ _ _ (p .1 .0) (p .1 .1 .0) (p .1 .1 .1) _ _ _ (at-entries .entries .ensures .0) (at-entries .entries .ensures .1 .0) (at-entries .entries .ensures .1 .1) (map-fits at-entries) (tables-accepted at-else2) _ _ (at-ext-rows .ext-rows .ensures .0) (at-ext-rows .ext-rows .ensures .1) (sym (c .before .before .before .before .is-accepted2 .ensures) ∙ not-false _ (c .before .before .before .if3 .left)) _ (at-ext-rows .ext-rows .kept .1 .1 .1 .1 .1 .1 .1 .1 .1 .1 .0 ∙ at-entries .entries .kept .1 .1 .1 .1 .1 .0 ∙ ap length (p .1 .1 .0) ∙ length-replicate {A = ℕ} _ 0) (c .before .dead-entry .ensures) (c .if4 .taken)
+    dead-done L _ _ _ (p .1 .0) (p .1 .1 .0) (p .1 .1 .1 .0) _ _ _ (at-entries .entries .ensures .0) (at-entries .entries .ensures .1 .0) (at-entries .entries .ensures .1 .1) (map-fits at-entries) (tables-accepted at-else2) _ _ (at-ext-rows .ext-rows .ensures .0) (at-ext-rows .ext-rows .ensures .1) (sym (c .before .before .before .before .is-accepted2 .ensures) ∙ not-false _ (c .before .before .before .if3 .left)) _ (at-ext-rows .ext-rows .kept .1 .1 .1 .1 .1 .1 .1 .1 .1 .1 .0 ∙ at-entries .entries .kept .1 .1 .1 .1 .1 .1 .1 .0 ∙ ap length (p .1 .1 .0) ∙ length-replicate {A = ℕ} _ 0) (c .before .dead-entry .ensures) (c .if4 .taken)
 
 roots-requires : tie.Need-roots-requires
 roots-requires c κs =
@@ -133,8 +134,8 @@ roots-requires c κs =
     let s = at-start .args in
     let p = at-start .pre in
     let L = input at-start in
-    let b = passed-tables L _ _ _ (p .1 .0) (p .1 .1 .0) (p .1 .1 .1) _ _ _ (at-entries .entries .ensures .0) (at-entries .entries .ensures .1 .0) (at-entries .entries .ensures .1 .1) (map-fits at-entries) (tables-accepted at-else2) in
-    let ws = widths Target (length (s .tbits .now)) [] (s .target .now) in (
+    let b = passed-tables L _ _ _ (p .1 .0) (p .1 .1 .0) (p .1 .1 .1 .0) _ _ _ (at-entries .entries .ensures .0) (at-entries .entries .ensures .1 .0) (at-entries .entries .ensures .1 .1) (map-fits at-entries) (tables-accepted at-else2) in
+    let ws = widths plain Target (length (s .tbits .now)) [] (s .target .now) in (
       reads-inside L b,
       (
         calls-inside L b,
@@ -159,7 +160,7 @@ returns-5 c =
     let at-start = entry at-entries in
     let p = at-start .pre in
     let L = input at-start in
-    roots-done L _ _ _ (p .1 .0) (p .1 .1 .0) (p .1 .1 .1) _ _ _ (at-entries .entries .ensures .0) (at-entries .entries .ensures .1 .0) (at-entries .entries .ensures .1 .1) (map-fits at-entries) (tables-accepted at-else2) _ _ (at-ext-rows .ext-rows .ensures .0) (at-ext-rows .ext-rows .ensures .1) (sym (c .before .before .before .before .before .is-accepted2 .ensures) ∙ not-false _ (c .before .before .before .before .if3 .left)) _ (at-ext-rows .ext-rows .kept .1 .1 .1 .1 .1 .1 .1 .1 .1 .1 .0 ∙ at-entries .entries .kept .1 .1 .1 .1 .1 .0 ∙ ap length (p .1 .1 .0) ∙ length-replicate {A = ℕ} _ 0) (c .before .before .dead-entry .ensures) _ (c .before .if4 .left) (c .roots .ensures)
+    roots-done L _ _ _ (p .1 .0) (p .1 .1 .0) (p .1 .1 .1 .0) _ _ _ (at-entries .entries .ensures .0) (at-entries .entries .ensures .1 .0) (at-entries .entries .ensures .1 .1) (map-fits at-entries) (tables-accepted at-else2) _ _ (at-ext-rows .ext-rows .ensures .0) (at-ext-rows .ext-rows .ensures .1) (sym (c .before .before .before .before .before .is-accepted2 .ensures) ∙ not-false _ (c .before .before .before .before .if3 .left)) _ (at-ext-rows .ext-rows .kept .1 .1 .1 .1 .1 .1 .1 .1 .1 .1 .0 ∙ at-entries .entries .kept .1 .1 .1 .1 .1 .1 .1 .0 ∙ ap length (p .1 .1 .0) ∙ length-replicate {A = ℕ} _ 0) (c .before .before .dead-entry .ensures) _ (c .before .if4 .left) (c .roots .ensures)
 
 pub matches-spec : {M : Type 1} → statement M
 matches-spec =

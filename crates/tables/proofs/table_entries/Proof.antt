@@ -15,10 +15,10 @@ use Rattle.tables.proofs.table_entries.Statement.{statement}
 use Rattle.tables.proofs.table_entries.Tie as tie
 
 abbrev Inv-loop : tie.InvT-loop
-Inv-loop which w class table cargs target ws cls₀ ent₀ m off₀ k₀ cls ent off k = Marked table w class (good which table cargs target ws) cls₀ ent₀ cls ent off k
+Inv-loop which second w class table beside target ws cls₀ ent₀ m off₀ k₀ cls ent off k = Marked table w class (good which second table beside target ws) cls₀ ent₀ cls ent off k
 
 abbrev μ-loop : tie.MeasureT-loop
-μ-loop which w class table cargs target ws cls₀ ent₀ m off₀ k₀ cls ent off k = length table - off
+μ-loop which second w class table beside target ws cls₀ ent₀ m off₀ k₀ cls ent off k = length table - off
 
 -- places: the start and the loop, seen from the loop and from the test of an entry
 abbrev start : tie.At-loop Inv-loop μ-loop → tie.Start Inv-loop μ-loop
@@ -32,19 +32,19 @@ passed c = c .before .before .before .before
 
 -- the test of an entry
 abbrev test : tie.At-loop Inv-loop μ-loop → List ℕ → ℕ → Bool
-test a = let s = start a .args in good (s .which) (s .table .now) (s .cargs .now) (s .target .now) (s .ws .now)
+test a = let s = start a .args in good (s .which) (s .second) (s .table .now) (s .beside .now) (s .target .now) (s .ws .now)
 
 loop-holds : tie.Need-loop-holds Inv-loop μ-loop
 loop-holds c =
     let s = c .before .before .before .before .before .before .args in
-    marked-none (s .table .now) (s .w) (s .class) (good (s .which) (s .table .now) (s .cargs .now) (s .target .now) (s .ws .now)) (s .cls .now) (s .ent .now)
+    marked-none (s .table .now) (s .w) (s .class) (good (s .which) (s .second) (s .table .now) (s .beside .now) (s .target .now) (s .ws .now)) (s .cls .now) (s .ent .now)
 
 entry-good-requires : tie.Need-entry-good-requires Inv-loop μ-loop
 entry-good-requires c κs =
     let a = c .before .before in
     let s = start a in
     let i = a .loop .inv in
-    ((s .pre .0, i .0, omega arith), (args-within (s .args .which) _ _ (s .args .target .now) (s .args .ws .now) _ _ (i .6), i .2 ∙ s .pre .1 .0))
+    ((s .pre .0, i .0, omega arith), (s .pre .1 .0, (args-within (s .args .which) (s .args .second) _ _ (s .args .target .now) (s .args .ws .now) _ _ (i .6), i .2 ∙ s .pre .1 .1 .0)))
 
 same-length : tie.Need-same-length Inv-loop μ-loop
 same-length c = search needs
@@ -81,8 +81,8 @@ fits : (c : tie.Else1 Inv-loop μ-loop)
 fits c =
     let s = start (passed c) in
     let l = passed c .loop in
-    let (a, d) = good-whole (s .args .which) _ _ _ _ _ (l .k) (s .args .w) (l .off) (s .pre .0) (l .inv .0) (is-good c) in
-    (a, rw (l .inv .2, s .pre .1 .0) d, rw (l .inv .3, s .pre .1 .1) d)
+    let (a, d) = good-whole (s .args .which) (s .args .second) _ _ _ _ _ (l .k) (s .args .w) (l .off) (s .pre .0) (l .inv .0) (is-good c) in
+    (a, rw (l .inv .2, s .pre .1 .1 .0) d, rw (l .inv .3, s .pre .1 .1 .1) d)
 
 mul-v : tie.Need-mul-v Inv-loop μ-loop
 mul-v c = search needs

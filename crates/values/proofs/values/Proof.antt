@@ -7,6 +7,7 @@ use native.Mathlib.Omega.{arith}
 use borrow.Author.Tests.{not-true, not-false}
 use lib.ListN.{length, replicate, take}
 use lib.Seq.{length-take-le}
+use Rattle.sorts.specs.Sorts.{plain}
 use Rattle.answers.specs.declared.Answer.{Answer}
 use Rattle.answers.specs.declared.Answer.the-variants.{Accepted}
 use Rattle.answers.specs.Answer.{isAccepted}
@@ -91,10 +92,10 @@ module _ (c : tie.After-target-widths) where
 
   -- 16, 17 and 2 of the target, and its widths
   abbrev rows-answer : Answer
-  rows-answer = rowsAnswer Target target bits (illRow Target (length bits) [] target)
+  rows-answer = rowsAnswer Target target bits (illRow plain Target (length bits) [] target)
 
   abbrev all-widths : List ℕ
-  all-widths = widths Target (length bits) [] target
+  all-widths = widths plain Target (length bits) [] target
 
   -- what has passed before the widths are asked for
   count : counted c .row-count .result ≡ rowCount Target target
@@ -113,7 +114,7 @@ module _ (c : tie.After-target-widths) where
   answer = widths-answer target bits ws _ _ (c .target-widths .ensures) whole room
 
   many : length all-widths ≡ rowCount Target target
-  many = build-length (rowWidth Target (length bits) [] target) (rowCount Target target)
+  many = build-length (rowWidth plain Target (length bits) [] target) (rowCount Target target)
 
 -- the widths' place from where they are accepted on
 abbrev widthed : tie.Else4 → tie.After-target-widths

@@ -15,6 +15,7 @@ use Rattle.lists.proofs.First.{first-at, first-past}
 use Rattle.lists.proofs.Build.{build-start, build-front, build-store}
 use Rattle.encoding.specs.Encoding.{tagCount}
 use Rattle.encoding.proofs.Encoding.{tags-in}
+use Rattle.sorts.specs.Sorts.{edition, sortsOf}
 use Rattle.rules.specs.Rule.{capped}
 use Rattle.rules.proofs.Rule.{capped-in, capped-over}
 use Rattle.wf.proofs.Stop.{good-width, line-good}
@@ -29,12 +30,12 @@ stored : (f : ℕ → List ℕ → ℕ) (ws₀ ws : List ℕ) (i w : ℕ) → ws
 stored f ws₀ ws i w e q h = rw (e, q) (build-store f ws₀ 0 i h)
 
 abbrev Inv-loop : tie.InvT-loop
-Inv-loop graph g nbits side ws₀ lines n tags i₀ ws i =
-    (i ≤ n) × (length ws ≡ length ws₀) × (ws ≡ widthsTo graph nbits side g i ++ drop i ws₀) ×
-    ((j : ℕ) → j < i → rowStops graph nbits side g j ≡ false)
+Inv-loop graph g nbits side second sorts ws₀ lines n tags i₀ ws i =
+    (i ≤ n) × (length ws ≡ length ws₀) × (ws ≡ widthsTo (sortsOf (edition second sorts)) graph nbits side g i ++ drop i ws₀) ×
+    ((j : ℕ) → j < i → rowStops (sortsOf (edition second sorts)) graph nbits side g j ≡ false)
 
 abbrev μ-loop : tie.MeasureT-loop
-μ-loop graph g nbits side ws₀ lines n tags i₀ ws i = n - i
+μ-loop graph g nbits side second sorts ws₀ lines n tags i₀ ws i = n - i
 
 row-count-requires : tie.Need-row-count-requires Inv-loop μ-loop
 row-count-requires c κs = search needs
@@ -56,22 +57,23 @@ same-length c = search needs
 
 returns : tie.Need-returns Inv-loop μ-loop
 returns c =
-    let s = c .before .before .before .before .before .before .before .before .before .args in
+    let s = c .before .before .before .before .before .before .before .before .before .before .args in
+    let σ = sortsOf (edition (s .second) (s .sorts .now)) in
     let l = c .before .before .before .loop in
     let bad = le-ltb _ _ (rw (c .before .before .before .before .tag-count .ensures, c .before .row .ensures) at (c .if1 .taken)) in
     let h = rw (c .before .before .before .before .before .row-count .ensures) at (c .before .before .loop-test .taken) in
-    (sym (first-at (rowStops (s .graph) (s .nbits) (s .side .now) (s .g .now)) _ _ h (rw bad) (l .inv .3)), l .inv .2)
+    (sym (first-at (rowStops σ (s .graph) (s .nbits) (s .side .now) (s .g .now)) _ _ h (rw bad) (l .inv .3)), l .inv .2)
 
 array-read-t : tie.Need-array-read-t Inv-loop μ-loop
 array-read-t c = search needs
 
 -- the tag is one of the graph's, so it has a line
 below : (c : tie.Else1 Inv-loop μ-loop)
-    → getD (c .before .row .result) 0 0 < tagCount (c .before .before .before .before .before .before .before .before .before .args .graph)
+    → getD (c .before .row .result) 0 0 < tagCount (c .before .before .before .before .before .before .before .before .before .before .args .graph)
 below c = rw (c .before .before .before .before .tag-count .ensures) at (c .if1 .left)
 
 tag-in : (c : tie.Else1 Inv-loop μ-loop) → getD (c .before .row .result) 0 0 < 39
-tag-in c = omega (arith, below c, tags-in (c .before .before .before .before .before .before .before .before .before .args .graph))
+tag-in c = omega (arith, below c, tags-in (c .before .before .before .before .before .before .before .before .before .before .args .graph))
 
 mul-line : tie.Need-mul-line Inv-loop μ-loop
 mul-line c = let h = tag-in c in record { fits = omega (arith, h) }
@@ -93,35 +95,39 @@ abbrev turn : tie.After-line-width Inv-loop μ-loop → tie.At-loop Inv-loop μ-
 turn c = c .before .before .before .before .before .before
 
 abbrev entry : tie.After-line-width Inv-loop μ-loop → tie.Start Inv-loop μ-loop
-entry c = turn c .before .before .before .before .before .before
+entry c = turn c .before .before .before .before .before .before .before
 
 -- what the call gives, over the widths before row i, within the ceiling
 width-is : (c : tie.After-line-width Inv-loop μ-loop)
     → let s = entry c .args in
+    let σ = sortsOf (edition (s .second) (s .sorts .now)) in
     let i = turn c .loop .i in
     capped (c .line-width .result)
-    ≡ goodWidth (s .graph) (s .nbits) (s .side .now) (s .g .now) i (widthsTo (s .graph) (s .nbits) (s .side .now) (s .g .now) i)
+    ≡ goodWidth σ (s .graph) (s .nbits) (s .side .now) (s .g .now) i (widthsTo σ (s .graph) (s .nbits) (s .side .now) (s .g .now) i)
 width-is c =
     let s = entry c .args in
+    let σ = sortsOf (edition (s .second) (s .sorts .now)) in
     let l = turn c .loop in
     let row = c .before .before .before .before .row in
     ap capped (c .line-width .ensures)
-    ∙ line-good (s .graph) (s .nbits) (s .side .now) (s .g .now) (l .i) (take (l .i) (l .ws)) (s .t1) (row .result) (entry c .pre .0) (row .ensures)
+    ∙ line-good σ (s .graph) (s .nbits) (s .side .now) (s .g .now) (l .i) (take (l .i) (l .ws)) (s .t1) (row .result) (entry c .pre .0) (row .ensures)
     (below (c .before .before .before))
-    ∙ ap (goodWidth (s .graph) (s .nbits) (s .side .now) (s .g .now) (l .i)) (ap (take (l .i)) (l .inv .2) ∙ build-front _ (l .i) _)
+    ∙ ap (goodWidth σ (s .graph) (s .nbits) (s .side .now) (s .g .now) (l .i)) (ap (take (l .i)) (l .inv .2) ∙ build-front _ (l .i) _)
 
 -- a row without one is where the pass stops
 stops : (c : tie.After-line-width Inv-loop μ-loop) → capped (c .line-width .result) ≡ 0
     → let s = entry c .args in
+    let σ = sortsOf (edition (s .second) (s .sorts .now)) in
     let l = turn c .loop in
-    (l .i ≡ stopRow (s .graph) (s .nbits) (s .side .now) (s .g .now))
-    × (l .ws ≡ widthsTo (s .graph) (s .nbits) (s .side .now) (s .g .now) (l .i) ++ drop (l .i) (s .ws .now))
+    (l .i ≡ stopRow σ (s .graph) (s .nbits) (s .side .now) (s .g .now))
+    × (l .ws ≡ widthsTo σ (s .graph) (s .nbits) (s .side .now) (s .g .now) (l .i) ++ drop (l .i) (s .ws .now))
 stops c e =
     let s = entry c .args in
+    let σ = sortsOf (edition (s .second) (s .sorts .now)) in
     let l = turn c .loop in
     let h = rw (turn c .before .before .row-count .ensures) at (c .before .before .before .before .before .loop-test .taken) in
     let none = eq-eqb _ _ (sym (width-is c) ∙ e) in
-    (sym (first-at (rowStops (s .graph) (s .nbits) (s .side .now) (s .g .now)) _ _ h none (l .inv .3)), l .inv .2)
+    (sym (first-at (rowStops σ (s .graph) (s .nbits) (s .side .now) (s .g .now)) _ _ h none (l .inv .3)), l .inv .2)
 
 same-length-2 : tie.Need-same-length-2 Inv-loop μ-loop
 same-length-2 c = search needs
@@ -153,13 +159,14 @@ loop-again : tie.Need-loop-again Inv-loop μ-loop
 loop-again c =
     let told = c .before .before in
     let s = entry told .args in
+    let σ = sortsOf (edition (s .second) (s .sorts .now)) in
     let l = turn told .loop in
     let width = sym (capped-in (told .line-width .result) (omega arith)) ∙ width-is told in
     let on = ne-eqb _ _ (λ z. c .before .if2 .left (width ∙ z)) in (
       omega arith,
       simp length-set (l .inv .1),
-      stored (rowWidth (s .graph) (s .nbits) (s .side .now) (s .g .now)) (s .ws .now) (l .ws) (l .i) _ (l .inv .2)
-          (width ∙ good-width (s .graph) (s .nbits) (s .side .now) (s .g .now) (l .i) on) (omega arith),
+      stored (rowWidth σ (s .graph) (s .nbits) (s .side .now) (s .g .now)) (s .ws .now) (l .ws) (l .i) _ (l .inv .2)
+          (width ∙ good-width σ (s .graph) (s .nbits) (s .side .now) (s .g .now) (l .i) on) (omega (arith, entry told .pre .1 .1)),
       below-more _ _ (l .inv .3) on,
     )
 
@@ -168,10 +175,11 @@ same-length-4 c = search needs
 
 returns-4 : tie.Need-returns-4 Inv-loop μ-loop
 returns-4 c =
-    let s = c .before .before .before .before .before .before .before .args in
+    let s = c .before .before .before .before .before .before .before .before .args in
+    let σ = sortsOf (edition (s .second) (s .sorts .now)) in
     let l = c .before .loop in
     let e = c .before .before .before .row-count .ensures in
-    let stops = rowStops (s .graph) (s .nbits) (s .side .now) (s .g .now) in
+    let stops = rowStops σ (s .graph) (s .nbits) (s .side .now) (s .g .now) in
     (sym (first-past stops _ _ (rw e at (l .inv .0)) (rw e at (c .loop-test .left)) (l .inv .3)), l .inv .2)
 
 pub rows-wf-spec : {M : Type 1} → statement M
