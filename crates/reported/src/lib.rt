@@ -1,10 +1,11 @@
-// Check and the verdict on a book, strict or not: their answers told in three words, and what acceptance means.
+// Check, of either edition, and the verdict on a book, strict or not: their answers told in three words, and what acceptance means.
 ghost use mathlib.Core.Path.{_≡_};
 ghost use mathlib.Core.List.{[], _∷_};
 ghost use Rattle.answers.specs.Result.{told, toldOf};
+ghost use Rattle.sorts.specs.Sorts.{edition};
 ghost use Rattle.loaded.specs.Held.{held};
 ghost use Rattle.judge.specs.Judge.{judgeBy};
-ghost use Rattle.lowering.specs.Lowering.{lowering};
+ghost use Rattle.lowering.specs.Lowering.{loweringIn};
 ghost use Rattle.lowering.specs.Check.{checkBy};
 ghost use Rattle.meaning.specs.Meaning.{truth};
 ghost use Rattle.soundness.specs.Sound.{SoundBy};
@@ -24,20 +25,22 @@ pub fn check(
     target: &[u64],
     tbits: &[u8],
     troots: &[u64],
+    second: bool,
+    sorts: &[u64],
     ws0: &mut [u64],
     ws1: &mut [u64],
     classes: &mut [u64],
     entries: &mut [u64],
 ) -> Words
     ensures outcome { λ r. ⌜ told r (now (ws0 .exit) ∷ now (ws1 .exit) ∷ now (classes .exit) ∷ now (entries .exit) ∷ [])
-        ≡ toldOf (checkBy strict (lowering (now (source .entry)) (now (ebits .entry)) (now (eside .entry)) (now (eroots .entry))
-        (now (map .entry)) (now (reads .entry)) (now (calls .entry)) (now (cargs .entry)) (now (target .entry)) (now (tbits .entry))
+        ≡ toldOf (checkBy strict (loweringIn (edition second (now (sorts .entry))) (now (source .entry)) (now (ebits .entry)) (now (eside .entry))
+        (now (eroots .entry)) (now (map .entry)) (now (reads .entry)) (now (calls .entry)) (now (cargs .entry)) (now (target .entry)) (now (tbits .entry))
         (now (troots .entry))) (now (ws0 .entry)) (now (ws1 .entry)) (now (classes .entry)) (now (entries .entry))) ⌝ }
-    ensures sound { λ r. ⌜ (r .number ≡ 0 → SoundBy (truth strict) (lowering (now (source .entry)) (now (ebits .entry)) (now (eside .entry))
-        (now (eroots .entry)) (now (map .entry)) (now (reads .entry)) (now (calls .entry)) (now (cargs .entry)) (now (target .entry))
+    ensures sound { λ r. ⌜ (r .number ≡ 0 → SoundBy (truth strict) (loweringIn (edition second (now (sorts .entry))) (now (source .entry)) (now (ebits .entry))
+        (now (eside .entry)) (now (eroots .entry)) (now (map .entry)) (now (reads .entry)) (now (calls .entry)) (now (cargs .entry)) (now (target .entry))
         (now (tbits .entry)) (now (troots .entry)))) ⌝ }
-    ensures choices { λ r. ⌜ (r .number ≡ 0 → SameChoicesBy (lowering (now (source .entry)) (now (ebits .entry)) (now (eside .entry))
-        (now (eroots .entry)) (now (map .entry)) (now (reads .entry)) (now (calls .entry)) (now (cargs .entry)) (now (target .entry))
+    ensures choices { λ r. ⌜ (r .number ≡ 0 → SameChoicesBy (loweringIn (edition second (now (sorts .entry))) (now (source .entry)) (now (ebits .entry))
+        (now (eside .entry)) (now (eroots .entry)) (now (map .entry)) (now (reads .entry)) (now (calls .entry)) (now (cargs .entry)) (now (target .entry))
         (now (tbits .entry)) (now (troots .entry))) (truth strict) (now (classes .exit))) ⌝ }
 {
     let a = checker::check(
@@ -53,6 +56,8 @@ pub fn check(
         target,
         tbits,
         troots,
+        second,
+        sorts,
         ws0,
         ws1,
         classes,

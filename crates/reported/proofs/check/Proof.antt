@@ -3,9 +3,10 @@ use Prim.Native.Nat.{_≤_}
 use mathlib.Core.Path.{ap}
 use native.Mathlib.Omega.{arith}
 use lib.ListN.{length}
+use Rattle.sorts.specs.Sorts.{edition}
 use Rattle.answers.specs.Result.{toldOf}
 use Rattle.rows.specs.Row.{MAX}
-use Rattle.lowering.specs.Lowering.{Lowering, lowering}
+use Rattle.lowering.specs.Lowering.{Lowering, loweringIn}
 use Rattle.reported.proofs.Sound.{check-means}
 use borrow.Author.Needs.{needs}
 use Rattle.reported.proofs.check.Statement.{statement}
@@ -33,18 +34,18 @@ same-length-4 c = search needs
 abbrev call : tie.After-words-of → tie.After-check
 call c = c .before .before .before .before .before .before .before .before .before
 
-abbrev read : tie.After-check → tie.After-shared-slice-known11
+abbrev read : tie.After-check → tie.After-shared-slice-known12
 read c = c .before .before .before .before .before .before .before .before .before
 
-abbrev entry : tie.After-shared-slice-known11 → tie.Start
-entry c = c .before .before .before .before .before .before .before .before .before .before .before
+abbrev entry : tie.After-shared-slice-known12 → tie.Start
+entry c = c .before .before .before .before .before .before .before .before .before .before .before .before
 
 -- the lowering that the lists are
 abbrev input : tie.Start → Lowering
 input c =
     let k = c .args in
-    lowering (k .source .now) (k .ebits .now) (k .eside .now) (k .eroots .now) (k .map .now) (k .reads .now) (k .calls .now) (k .cargs .now)
-    (k .target .now) (k .tbits .now) (k .troots .now)
+    loweringIn (edition (k .second) (k .sorts .now)) (k .source .now) (k .ebits .now) (k .eside .now) (k .eroots .now) (k .map .now) (k .reads .now)
+    (k .calls .now) (k .cargs .now) (k .target .now) (k .tbits .now) (k .troots .now)
 
 -- owning the target's slice bounds its length
 slice : (c : tie.Start) → length (c .args .target .now) ≤ MAX
