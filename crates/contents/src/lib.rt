@@ -3,7 +3,7 @@ ghost use mathlib.Core.Path.{_≡_};
 ghost use Prim.Native.Nat.{_+_, _≤_, _<_};
 ghost use lib.Dec.{ltb};
 ghost use lib.ListN.{length};
-ghost use Rattle.contents.specs.Contents.{wordAt, sections, contents, startOf, lengthOf, isBits};
+ghost use Rattle.contents.specs.Contents.{wordAt, startOf, lengthOf, sections, contents, isBits};
 
 fn wide(x: u8) -> u64
     ensures value { λ r. ⌜ (r ≡ x) × (r < 256) ⌝ }
@@ -28,14 +28,14 @@ pub fn word(b: &[u8], at: usize) -> u64
 }
 
 pub fn start_of(book: &[u8], i: usize) -> u64
-    requires { ⌜ (i < sections) × (contents ≤ length (now book)) ⌝ }
+    requires { ⌜ (i < sections (now book)) × (contents (now book) ≤ length (now book)) ⌝ }
     ensures value { λ r. ⌜ r ≡ startOf (now (book .entry)) i ⌝ }
 {
     word(book, 16 * i)
 }
 
 pub fn length_of(book: &[u8], i: usize) -> u64
-    requires { ⌜ (i < sections) × (contents ≤ length (now book)) ⌝ }
+    requires { ⌜ (i < sections (now book)) × (contents (now book) ≤ length (now book)) ⌝ }
     ensures value { λ r. ⌜ r ≡ lengthOf (now (book .entry)) i ⌝ }
 {
     word(book, 16 * i + 8)
