@@ -33,24 +33,24 @@ list-short b i = go (isBits i) refl
         omega arith
 
 module _ (b : List ℕ) (g : Good b) where
-  pub body-length : (i : ℕ) → i < sections → length (body b i) ≡ lengthOf b i
+  pub body-length : (i : ℕ) → i < sections b → length (body b i) ≡ lengthOf b i
   body-length i h =
       let w : startOf b i + lengthOf b i ≤ length b = good-book b g .each i h .within in
       let d : length (drop (startOf b i) b) ≡ length b - startOf b i = length-drop (startOf b i) b in
       length-take-le (lengthOf b i) (drop (startOf b i) b) (omega arith)
 
-  pub words-count : (i : ℕ) → i < sections → isBits i ≡ false → length (listOf b i) ≡ lengthOf b i / 8
+  pub words-count : (i : ℕ) → i < sections b → isBits i ≡ false → length (listOf b i) ≡ lengthOf b i / 8
   words-count i h t = rw (t, words-length (body b i), body-length i h)
 
   -- no byte of a section of words is left out
-  pub words-whole : (i : ℕ) → i < sections → isBits i ≡ false → 8 * length (listOf b i) ≡ length (body b i)
+  pub words-whole : (i : ℕ) → i < sections b → isBits i ≡ false → 8 * length (listOf b i) ≡ length (body b i)
   words-whole i h t =
       let c : length (listOf b i) ≡ lengthOf b i / 8 = words-count i h t in
       let l : length (body b i) ≡ lengthOf b i = body-length i h in
       let w : lengthOf b i % 8 ≡ 0 = good-book b g .each i h .whole t in
       omega arith
 
-  list-bound : (i : ℕ) → i < sections → 8 * length (listOf b i) ≤ lengthOf b i
+  list-bound : (i : ℕ) → i < sections b → 8 * length (listOf b i) ≤ lengthOf b i
   list-bound i h = go (isBits i) refl
     where
       go : (t : Bool) → isBits i ≡ t → 8 * length (listOf b i) ≤ lengthOf b i
@@ -58,24 +58,24 @@ module _ (b : List ℕ) (g : Good b) where
       go false e = let c : length (listOf b i) ≡ lengthOf b i / 8 = words-count i h e in omega arith
 
   -- eight bytes a word, after the contents
-  pub loaded-bound : (i : ℕ) → i ≤ sections → contents + 8 * length (loaded b i) ≤ dueAt b i
+  pub loaded-bound : (i : ℕ) → i ≤ sections b → contents b + 8 * length (loaded b i) ≤ dueAt b i
   unfolding loaded
   loaded-bound zero h = omega arith
   loaded-bound (suc i) h =
-      let r : contents + 8 * length (loaded b i) ≤ dueAt b i = loaded-bound i (omega arith) in
+      let r : contents b + 8 * length (loaded b i) ≤ dueAt b i = loaded-bound i (omega arith) in
       let l : 8 * length (listOf b i) ≤ lengthOf b i = list-bound i h in
       let s : startOf b i ≡ dueAt b i = good-book b g .each i h .starts in
       let a : length (loaded b i ++ listOf b i) ≡ length (loaded b i) + length (listOf b i) = length-append (loaded b i) (listOf b i) in
       omega arith
 
-  due-within : (i : ℕ) → i ≤ sections → dueAt b i ≤ length b
+  due-within : (i : ℕ) → i ≤ sections b → dueAt b i ≤ length b
   due-within zero h = good-book b g .long
   due-within (suc i) h = good-book b g .each i h .within
 
   -- so there are fewer words than bytes
-  pub loaded-fits : (i : ℕ) → i ≤ sections → length (loaded b i) ≤ length b
+  pub loaded-fits : (i : ℕ) → i ≤ sections b → length (loaded b i) ≤ length b
   loaded-fits i h =
-      let x : contents + 8 * length (loaded b i) ≤ dueAt b i = loaded-bound i h in
+      let x : contents b + 8 * length (loaded b i) ≤ dueAt b i = loaded-bound i h in
       let y : dueAt b i ≤ length b = due-within i h in
       omega arith
 
@@ -154,7 +154,7 @@ module _ (b : List ℕ) (i : ℕ) (old : List ℕ) where
   pub bits-joined : isBits i ≡ true → old ≡ joined
   bits-joined t = let l : listOf b i ≡ [] = rw t in rw (l, add-zero) (sym (take-append-drop n old))
 
-  module _ (g : Good b) (h : i < sections) (r : n + m ≤ length old) (at : ℕ) (e : at ≡ n) (bytes : List ℕ) (f : bytes ≡ body b i) (t : isBits i ≡ false) where
+  module _ (g : Good b) (h : i < sections b) (r : n + m ≤ length old) (at : ℕ) (e : at ≡ n) (bytes : List ℕ) (f : bytes ≡ body b i) (t : isBits i ≡ false) where
     words-are : wordsOfBytes bytes ≡ listOf b i
     words-are = rw (t, f)
 
@@ -199,25 +199,25 @@ pub record Part (b : List ℕ) (i : ℕ) (ws : List ℕ) (from end : ℕ) : Type
   pub inside : end ≤ length ws
   pub part-is : take (end - from) (drop from ws) ≡ listOf b i
 
-pub part : (b ws : List ℕ) (i from end : ℕ) → i < sections → ws ≡ loaded b sections ++ drop (length (loaded b sections)) ws → from ≡ length (loaded b i) → end ≡ length (loaded b (i + 1))
+pub part : (b ws : List ℕ) (i from end : ℕ) → i < sections b → ws ≡ loaded b (sections b) ++ drop (length (loaded b (sections b))) ws → from ≡ length (loaded b i) → end ≡ length (loaded b (i + 1))
     → Part b i ws from end
 part b ws i from end h e f g =
-    let r = drop (length (loaded b sections)) ws in
+    let r = drop (length (loaded b (sections b))) ws in
     let k : end ≡ length (loaded b i) + length (listOf b i) = g ∙ sym (offset-more b _ _ i refl refl) in
-    let l : length ws ≡ length (loaded b sections) + length r = ap (λ (l : List ℕ). length l) e ∙ length-append (loaded b sections) r in
-    let t : length (loaded b i) + length (listOf b i) ≤ length (loaded b sections) = loaded-below b sections i h in
+    let l : length ws ≡ length (loaded b (sections b)) + length r = ap (λ (l : List ℕ). length l) e ∙ length-append (loaded b (sections b)) r in
+    let t : length (loaded b i) + length (listOf b i) ≤ length (loaded b (sections b)) = loaded-below b (sections b) i h in
     let d : end - from ≡ length (listOf b i) = omega arith in
     record {
       ordered = omega arith;
       inside = omega arith;
-      part-is = rw (d, f, e) (list-within b sections i r h);
+      part-is = rw (d, f, e) (list-within b (sections b) i r h);
     }
 
 -- a list that holds a book's words has room for them
-pub words-inside : (b ws : List ℕ) → ws ≡ loaded b sections ++ drop (length (loaded b sections)) ws → length (loaded b sections) ≤ length ws
+pub words-inside : (b ws : List ℕ) → ws ≡ loaded b (sections b) ++ drop (length (loaded b (sections b))) ws → length (loaded b (sections b)) ≤ length ws
 words-inside b ws e =
-    let r = drop (length (loaded b sections)) ws in
-    let l : length ws ≡ length (loaded b sections) + length r = ap (λ (l : List ℕ). length l) e ∙ length-append (loaded b sections) r in
+    let r = drop (length (loaded b (sections b))) ws in
+    let l : length ws ≡ length (loaded b (sections b)) + length r = ap (λ (l : List ℕ). length l) e ∙ length-append (loaded b (sections b)) r in
     omega arith
 
 -- words that stand in front, zeros after them

@@ -23,7 +23,7 @@ fn read_words(bytes: &[u8], out: &mut [u64])
 
 // How many words section i + 1 has.
 pub fn word_count(book: &[u8], i: usize) -> usize
-    requires { ⌜ (i < sections) × Good (now book) ⌝ }
+    requires { ⌜ (i < sections (now book)) × Good (now book) ⌝ }
     ensures count { λ r. ⌜ r ≡ length (listOf (now (book .entry)) i) ⌝ }
 {
     if contents::is_bits(i) {
@@ -34,7 +34,7 @@ pub fn word_count(book: &[u8], i: usize) -> usize
 
 // How many words the first i sections have.
 pub fn offset(book: &[u8], i: usize) -> usize
-    requires { ⌜ (i ≤ sections) × Good (now book) ⌝ }
+    requires { ⌜ (i ≤ sections (now book)) × Good (now book) ⌝ }
     ensures count { λ r. ⌜ r ≡ length (loaded (now (book .entry)) i) ⌝ }
 {
     let mut at = 0;
@@ -48,7 +48,7 @@ pub fn offset(book: &[u8], i: usize) -> usize
 
 // Section i + 1's words, put in a list after those of the sections before.
 fn load_section(book: &[u8], i: usize, words: &mut [u64])
-    requires { ⌜ (i < sections) × Good (now book) ⌝ }
+    requires { ⌜ (i < sections (now book)) × Good (now book) ⌝ }
     requires { ⌜ length (loaded (now book) i) + length (listOf (now book) i) ≤ length (now words) ⌝ }
     ensures list { λ _. ⌜ now (words .exit) ≡ take (length (loaded (now (book .entry)) i)) (now (words .entry)) ++ (listOf
         (now (book .entry)) i ++ drop (length (loaded (now (book .entry)) i) + length (listOf (now (book .entry)) i)) (now (words .entry))) ⌝ }
@@ -63,12 +63,13 @@ fn load_section(book: &[u8], i: usize, words: &mut [u64])
 // All words of a book, put at the start of a list.
 pub fn load(book: &[u8], words: &mut [u64])
     requires { ⌜ Good (now book) ⌝ }
-    requires { ⌜ length (loaded (now book) sections) ≤ length (now words) ⌝ }
-    ensures list { λ _. ⌜ now (words .exit) ≡ loaded (now (book .entry)) sections ++ drop (length (loaded (now (book .entry)) sections))
-        (now (words .entry)) ⌝ }
+    requires { ⌜ length (loaded (now book) (sections (now book))) ≤ length (now words) ⌝ }
+    ensures list { λ _. ⌜ now (words .exit) ≡ loaded (now (book .entry)) (sections (now (book .entry))) ++ drop (length (loaded
+        (now (book .entry)) (sections (now (book .entry))))) (now (words .entry)) ⌝ }
 {
+    let n = book::sections(book);
     let mut i = 0;
-    while i < book::SECTIONS {
+    while i < n {
         load_section(book, i, words);
         i += 1;
     }
@@ -76,8 +77,8 @@ pub fn load(book: &[u8], words: &mut [u64])
 
 // Section i + 1's words in a list that holds the book's.
 pub fn list_at<'a>(book: &[u8], words: &'a [u64], i: usize) -> &'a [u64]
-    requires { ⌜ (i < sections) × Good (now book) ⌝ }
-    requires { ⌜ now words ≡ loaded (now book) sections ++ drop (length (loaded (now book) sections)) (now words) ⌝ }
+    requires { ⌜ (i < sections (now book)) × Good (now book) ⌝ }
+    requires { ⌜ now words ≡ loaded (now book) (sections (now book)) ++ drop (length (loaded (now book) (sections (now book)))) (now words) ⌝ }
     ensures list { λ r. ⌜ now r ≡ listOf (now (book .entry)) i ⌝ }
 {
     let from = offset(book, i);
@@ -88,13 +89,13 @@ pub fn list_at<'a>(book: &[u8], words: &'a [u64], i: usize) -> &'a [u64]
 // A list that holds a book's words: kept, with zeros after them, or zeroed.
 pub fn leave(book: &[u8], words: &mut [u64], kept: bool)
     requires { ⌜ Good (now book) ⌝ }
-    requires { ⌜ now words ≡ loaded (now book) sections ++ drop (length (loaded (now book) sections)) (now words) ⌝ }
-    ensures list { λ _. ⌜ now (words .exit) ≡ cond kept (loaded (now (book .entry)) sections ++ replicate (length (now (words .entry))
-        - length (loaded (now (book .entry)) sections)) 0) (replicate (length (now (words .entry))) 0) ⌝ }
+    requires { ⌜ now words ≡ loaded (now book) (sections (now book)) ++ drop (length (loaded (now book) (sections (now book)))) (now words) ⌝ }
+    ensures list { λ _. ⌜ now (words .exit) ≡ cond kept (loaded (now (book .entry)) (sections (now (book .entry))) ++ replicate (length
+        (now (words .entry)) - length (loaded (now (book .entry)) (sections (now (book .entry))))) 0) (replicate (length (now (words .entry))) 0) ⌝ }
 {
     if !kept {
         lists::clear(words);
         return;
     }
-    lists::clear_from(words, offset(book, book::SECTIONS));
+    lists::clear_from(words, offset(book, book::sections(book)));
 }

@@ -2,6 +2,7 @@
 use Prim.Native.Nat.{_≤_}
 use native.Mathlib.Omega.{arith}
 use lib.ListN.{length}
+use Rattle.contents.proofs.Editions.{sections-high}
 use Rattle.bodies.proofs.Words.{part}
 use borrow.Author.Needs.{needs}
 use Rattle.bodies.proofs.list_at.Statement.{statement}
@@ -11,7 +12,7 @@ offset-requires : tie.Need-offset-requires
 offset-requires c κs = search needs
 
 add-offset : tie.Need-add-offset
-add-offset c = search needs
+add-offset c = let h = sections-high (c .before .before .before .args .book .now) in search needs
 
 offset-requires-2 : tie.Need-offset-requires-2
 offset-requires-2 c κs = search needs
