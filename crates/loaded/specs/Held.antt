@@ -14,4 +14,4 @@ held b =
 
 -- all words that a book holds
 abbrev pub bookWords : List ℕ → List ℕ
-bookWords b = loaded b sections
+bookWords b = loaded b (sections b)

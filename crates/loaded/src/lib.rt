@@ -30,7 +30,8 @@ pub fn room_answer(book: &[u8], w0: usize, w1: usize, c: usize, e: usize, room: 
     if !answers::is_accepted(a) {
         return a;
     }
-    if room < bodies::offset(book, book::SECTIONS) {
+    let n = book::sections(book);
+    if room < bodies::offset(book, n) {
         return Answer::WorkShort(5);
     }
     Answer::Accepted
@@ -47,7 +48,7 @@ pub fn check_loaded(
     ent: &mut [u64],
 ) -> Answer
     requires { ⌜ Good (now book) ⌝ }
-    requires { ⌜ now words ≡ loaded (now book) sections ++ drop (length (loaded (now book) sections)) (now words) ⌝ }
+    requires { ⌜ now words ≡ loaded (now book) (sections (now book)) ++ drop (length (loaded (now book) (sections (now book)))) (now words) ⌝ }
     ensures outcome { λ r. ⌜ result r (now (ws0 .exit) ∷ now (ws1 .exit) ∷ now (cls .exit) ∷ now (ent .exit) ∷ [])
         ≡ checkBy strict (held (now (book .entry))) (now (ws0 .entry)) (now (ws1 .entry)) (now (cls .entry)) (now (ent .entry)) ⌝ }
 {
