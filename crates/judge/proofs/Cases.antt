@@ -1,4 +1,4 @@
--- Verdicts computed: 01's empty book, the empty input. Assumes nothing.
+-- Verdicts computed: the empty book of each edition, the empty input. Assumes nothing.
 use mathlib.Core.Path.{_≡_, refl}
 use mathlib.Core.List.{[]}
 use Rattle.answers.specs.declared.Answer.the-variants.{Accepted, BookShape}
@@ -14,6 +14,16 @@ use Rattle.judge.specs.Judge.{verdict, strictVerdict}
 empty-book : (verdict (copies 11 (entry 176 0)) ≡ Accepted) × (strictVerdict (copies 11 (entry 176 0)) ≡ Accepted)
 unfolding first build trace firstRefusal leads pairsWith pairs copies
 empty-book = (refl, refl)
+
+-- the second edition's: twelve empty bodies, each start 192
+empty-second : (verdict (copies 12 (entry 192 0)) ≡ Accepted) × (strictVerdict (copies 12 (entry 192 0)) ≡ Accepted)
+unfolding first build trace firstRefusal leads pairsWith pairs copies
+empty-second = (refl, refl)
+
+-- "under 192 bytes is place 0"
+cut-second : (verdict (copies 11 (entry 192 0)) ≡ BookShape 0) × (strictVerdict (copies 11 (entry 192 0)) ≡ BookShape 0)
+unfolding first copies
+cut-second = (refl, refl)
 
 -- "Empty input prints `refused 20 0 0`"
 empty-input : (verdict [] ≡ BookShape 0) × (strictVerdict [] ≡ BookShape 0)

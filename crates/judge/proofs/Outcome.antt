@@ -7,7 +7,7 @@ use borrow.Author.Tests.{ltb-false}
 use lib.Dec.{eqb, ltb}
 use lib.ListN.{length, replicate}
 use Rattle.answers.specs.declared.Answer.{Answer}
-use Rattle.answers.specs.declared.Answer.the-variants.{Accepted, WorkShort, BookShape}
+use Rattle.answers.specs.declared.Answer.the-variants.{WorkShort}
 use Rattle.answers.specs.Answer.{isAccepted, keeps, andThen}
 use Rattle.answers.specs.Result.{Result, result, left, leaves}
 use Rattle.lists.proofs.Choice.{no-way}
@@ -16,14 +16,15 @@ use Rattle.checker.proofs.Keeps.{keeps-count}
 use Rattle.checker.proofs.Outcome.{four, keeps-rest}
 use Rattle.contents.specs.Contents.{sections, contents}
 use Rattle.book.specs.Book.{dueAt, firstBad, bookAnswer}
+use Rattle.book.proofs.Shape.{shape-by}
 use Rattle.loaded.specs.Held.{held, bookWords}
 use Rattle.judge.specs.Judge.{judgeAnswerBy, judgeBy}
 
 -- 20 is not among the refusals that write nothing
 keeps-book : (b : List ℕ) → keeps (bookAnswer b) ≡ false
-keeps-book b = go (ltb (length b) contents) (ltb (firstBad b) sections) (eqb (dueAt b sections) (length b))
+keeps-book b = go (ltb (length b) (contents b)) (ltb (firstBad b) (sections b)) (eqb (dueAt b (sections b)) (length b))
   where
-    go : (s f d : Bool) → keeps (cond s (BookShape 0) (cond f (BookShape (firstBad b + 1)) (cond d Accepted (BookShape (sections + 1))))) ≡ false
+    go : (s f d : Bool) → keeps (shape-by b s f d) ≡ false
     go true f d = refl
     go false true d = refl
     go false false true = refl

@@ -14,6 +14,7 @@ use Rattle.lowering.specs.Lowering.{Lowering, sourceRows, targetRows}
 use Rattle.lowering.specs.Check.{refuse, firstRefusal, countAnswers, formAnswers, matchAnswers, checkAnswerBy}
 use Rattle.lowering.proofs.Refusals.{refusal-append}
 use Rattle.contents.specs.Contents.{sections, contents}
+use Rattle.contents.proofs.Editions.{sections-low}
 use Rattle.book.specs.Book.{dueAt, bookAnswer}
 use Rattle.bodies.specs.Words.{listOf, loaded}
 use Rattle.book.specs.Good.{Good}
@@ -49,12 +50,12 @@ module _ (strict : Bool) (L : Lowering) (w0 w1 c e : ℕ) where
       let t : ltb (targetRows L) (targetRows L) ≡ false = le-ltb (targetRows L) (targetRows L) (omega arith) in
       rw (le-ltb _ _ h0, le-ltb _ _ h1, le-ltb _ _ h2, le-ltb _ _ h3, s, t)
 
--- a book of at most 65,536 bytes has at most 8,170 words
+-- a book of either edition of at most 65,536 bytes has at most 8,170 words
 pub few-words : (b : List ℕ) → length b ≤ longest → Good b → length (bookWords b) ≤ 8170
 few-words b h g =
-    let x : contents + 8 * length (loaded b sections) ≤ dueAt b sections = loaded-bound b g sections (omega arith) in
-    let y : dueAt b sections ≡ length b = good-book b g .ends in
-    omega arith
+    let x : contents b + 8 * length (loaded b (sections b)) ≤ dueAt b (sections b) = loaded-bound b g (sections b) (omega arith) in
+    let y : dueAt b (sections b) ≡ length b = good-book b g .ends in
+    omega (arith, sections-low b)
 
 pub few-in : (b : List ℕ) (i : ℕ) → length (loaded b i) + length (listOf b i) ≤ length (bookWords b) → length (bookWords b) ≤ 8170 → length (listOf b i) ≤ 8170
 few-in b i h k = omega arith
@@ -65,9 +66,10 @@ module _ (strict : Bool) (b : List ℕ) (w0 w1 c e room : ℕ) (h0 : 2048 ≤ w0
         (andThen (refuse (ltb room (length (bookWords b))) (WorkShort 5)) (checkAnswerBy strict (held b) w0 w1 c e))
         ≡ checkAnswerBy strict (held b) (sourceRows (held b)) (targetRows (held b)) (targetRows (held b)) (targetRows (held b))
     long-enough g =
+        let n : 11 ≤ sections b = sections-low b in
         let k : length (bookWords b) ≤ 8170 = few-words b h g in
-        let s : length (listOf b 0) ≤ 8170 = few-in b 0 (loaded-below b sections 0 (omega arith)) k in
-        let t : length (listOf b 8) ≤ 8170 = few-in b 8 (loaded-below b sections 8 (omega arith)) k in
+        let s : length (listOf b 0) ≤ 8170 = few-in b 0 (loaded-below b (sections b) 0 (omega (arith, n))) k in
+        let t : length (listOf b 8) ≤ 8170 = few-in b 8 (loaded-below b (sections b) 8 (omega (arith, n))) k in
         let l : length (bookWords b) ≤ room = omega arith in
         let r0 : length (listOf b 0) / 5 ≤ w0 = omega arith in
         let r1 : length (listOf b 8) / 4 ≤ w1 = omega arith in

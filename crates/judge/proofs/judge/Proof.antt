@@ -102,7 +102,7 @@ check-loaded-requires c κs =
     let l = c .before .before .before .before .before .before .before in
     let e = shaped (l .before .before) in
     let s = entry e .args in
-    (good e, filled-rest (s .book .now) (s .words .now) sections _ (l .load .ensures))
+    (good e, filled-rest (s .book .now) (s .words .now) (sections (s .book .now)) _ (l .load .ensures))
 
 is-accepted-requires-3 : tie.Need-is-accepted-requires-3
 is-accepted-requires-3 c κs = search needs
@@ -112,7 +112,7 @@ leave-requires c κs =
     let l = load-of (check-of (c .before)) in
     let e = shaped (l .before .before) in
     let s = entry e .args in
-    (good e, filled-rest (s .book .now) (s .words .now) sections _ (l .load .ensures))
+    (good e, filled-rest (s .book .now) (s .words .now) (sections (s .book .now)) _ (l .load .ensures))
 
 same-length-6 : tie.Need-same-length-6
 same-length-6 c = search needs
