@@ -38,7 +38,10 @@ add-i : tie.Need-add-i Inv-loop μ-loop
 add-i c = search needs
 
 loop-less : tie.Need-loop-less Inv-loop μ-loop
-loop-less c = search needs
+loop-less c =
+    let t = c .before .before .before .before in
+    let k = t .before .before in
+    omega (arith, t .loop-test .taken, k .sections .ensures, sections-low (k .before .before .before .args .book .now))
 
 loop-again : tie.Need-loop-again Inv-loop μ-loop
 loop-again c =

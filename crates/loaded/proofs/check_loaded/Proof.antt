@@ -1,13 +1,8 @@
 -- Each of the eleven lists that Check is lent is the book's, by the call that took it. Assumes nothing.
-use Prim.Native.Nat.{ℕ, _<_}
-use mathlib.Core.Path.{_≡_}
-use mathlib.Core.List.{_++_}
+use Prim.Native.Nat.{_≤_}
 use native.Mathlib.Omega.{arith}
-use lib.ListN.{length, drop}
 use Rattle.contents.specs.Contents.{sections}
 use Rattle.contents.proofs.Editions.{sections-low}
-use Rattle.book.specs.Good.{Good}
-use Rattle.bodies.specs.Words.{loaded}
 use Rattle.loaded.proofs.Held.{held-by}
 use borrow.Author.Needs.{needs}
 use Rattle.loaded.proofs.check_loaded.Statement.{statement}
@@ -20,44 +15,42 @@ entry c = c .before .before .before .before .before .before .before
 abbrev first : tie.After-list-at8 → tie.After-list-at
 first c = c .before .before .before .before .before .before .before .before
 
--- every book has the first eleven sections
-ready : (c : tie.Start) (i : ℕ)
-    → (let b = c .args .book .now in
-    i < 11 → (((i < sections b) × Good b) × (c .args .words .now ≡ loaded b (sections b) ++ drop (length (loaded b (sections b))) (c .args .words .now))))
-ready c i h = ((omega (arith, h, sections-low (c .args .book .now)), c .pre .0), c .pre .1)
+-- every book has the sections that Check takes
+eleven : (c : tie.Start) → 11 ≤ sections (c .args .book .now)
+eleven c = sections-low (c .args .book .now)
 
 list-at-requires : tie.Need-list-at-requires
-list-at-requires c κs = ready (c .before .before .before .before .before .before) 0 (omega arith)
+list-at-requires c κs = let s = c .before .before .before .before .before .before in ((omega (arith, eleven s), s .pre .0), s .pre .1)
 
 body-requires : tie.Need-body-requires
-body-requires c κs = ready (entry c) 1 (omega arith) .0
+body-requires c κs = let s = entry c in (omega (arith, eleven s), s .pre .0)
 
 list-at-requires-2 : tie.Need-list-at-requires-2
-list-at-requires-2 c κs = ready (entry (c .before)) 2 (omega arith)
+list-at-requires-2 c κs = let s = entry (c .before) in ((omega (arith, eleven s), s .pre .0), s .pre .1)
 
 list-at-requires-3 : tie.Need-list-at-requires-3
-list-at-requires-3 c κs = ready (entry (c .before .before)) 3 (omega arith)
+list-at-requires-3 c κs = let s = entry (c .before .before) in ((omega (arith, eleven s), s .pre .0), s .pre .1)
 
 list-at-requires-4 : tie.Need-list-at-requires-4
-list-at-requires-4 c κs = ready (entry (c .before .before .before)) 4 (omega arith)
+list-at-requires-4 c κs = let s = entry (c .before .before .before) in ((omega (arith, eleven s), s .pre .0), s .pre .1)
 
 list-at-requires-5 : tie.Need-list-at-requires-5
-list-at-requires-5 c κs = ready (entry (c .before .before .before .before)) 5 (omega arith)
+list-at-requires-5 c κs = let s = entry (c .before .before .before .before) in ((omega (arith, eleven s), s .pre .0), s .pre .1)
 
 list-at-requires-6 : tie.Need-list-at-requires-6
-list-at-requires-6 c κs = ready (entry (c .before .before .before .before .before)) 6 (omega arith)
+list-at-requires-6 c κs = let s = entry (c .before .before .before .before .before) in ((omega (arith, eleven s), s .pre .0), s .pre .1)
 
 list-at-requires-7 : tie.Need-list-at-requires-7
-list-at-requires-7 c κs = ready (entry (c .before .before .before .before .before .before)) 7 (omega arith)
+list-at-requires-7 c κs = let s = entry (c .before .before .before .before .before .before) in ((omega (arith, eleven s), s .pre .0), s .pre .1)
 
 list-at-requires-8 : tie.Need-list-at-requires-8
-list-at-requires-8 c κs = ready (entry (c .before .before .before .before .before .before .before)) 8 (omega arith)
+list-at-requires-8 c κs = let s = entry (c .before .before .before .before .before .before .before) in ((omega (arith, eleven s), s .pre .0), s .pre .1)
 
 body-requires-2 : tie.Need-body-requires-2
-body-requires-2 c κs = ready (entry (first c)) 9 (omega arith) .0
+body-requires-2 c κs = let s = entry (first c) in (omega (arith, eleven s), s .pre .0)
 
 list-at-requires-9 : tie.Need-list-at-requires-9
-list-at-requires-9 c κs = ready (entry (first (c .before))) 10 (omega arith)
+list-at-requires-9 c κs = let s = entry (first (c .before)) in ((omega (arith, eleven s), s .pre .0), s .pre .1)
 
 check-requires : tie.Need-check-requires
 check-requires c κs = search needs

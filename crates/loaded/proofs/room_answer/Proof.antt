@@ -45,7 +45,8 @@ offset-requires c κs =
 counted : (c : tie.After-offset) → c .offset .result ≡ length (bookWords (c .before .before .before .before .before .before .before .before .args .book .now))
 counted c =
     let b = c .before .before .before .before .before .before .before .before .args .book .now in
-    c .offset .ensures ∙ ap (λ (n : ℕ). length (loaded b n)) (c .before .sections .ensures)
+    let e : c .offset .result ≡ length (loaded b (c .before .sections .result)) = c .offset .ensures in
+    e ∙ ap (λ (n : ℕ). length (loaded b n)) (c .before .sections .ensures)
 
 returns-2 : tie.Need-returns-2
 returns-2 c =
