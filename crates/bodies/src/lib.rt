@@ -46,9 +46,9 @@ pub fn offset(book: &[u8], i: usize) -> usize
     at
 }
 
-// Section i + 1's words, put in a list after those of the sections before.
-fn load_section(book: &[u8], i: usize, words: &mut [u64])
-    requires { ⌜ (i < sections (now book)) × Good (now book) ⌝ }
+// Section i + 1's words, put in a list after those of the sections before, which end at a place.
+fn load_section(book: &[u8], i: usize, at: usize, words: &mut [u64])
+    requires { ⌜ (i < sections (now book)) × Good (now book) × (at ≡ length (loaded (now book) i)) ⌝ }
     requires { ⌜ length (loaded (now book) i) + length (listOf (now book) i) ≤ length (now words) ⌝ }
     ensures list { λ _. ⌜ now (words .exit) ≡ take (length (loaded (now (book .entry)) i)) (now (words .entry)) ++ (listOf
         (now (book .entry)) i ++ drop (length (loaded (now (book .entry)) i) + length (listOf (now (book .entry)) i)) (now (words .entry))) ⌝ }
@@ -56,7 +56,6 @@ fn load_section(book: &[u8], i: usize, words: &mut [u64])
     if contents::is_bits(i) {
         return;
     }
-    let at = offset(book, i);
     read_words(book::body(book, i), &mut words[at..]);
 }
 
@@ -68,9 +67,11 @@ pub fn load(book: &[u8], words: &mut [u64])
         (now (book .entry)) (sections (now (book .entry))))) (now (words .entry)) ⌝ }
 {
     let n = book::sections(book);
+    let mut at = 0;
     let mut i = 0;
     while i < n {
-        load_section(book, i, words);
+        load_section(book, i, at, words);
+        at += word_count(book, i);
         i += 1;
     }
 }

@@ -9,10 +9,9 @@ is-bits-requires : tie.Need-is-bits-requires
 is-bits-requires c κs = search needs
 
 returns : tie.Need-returns
-returns c = bits-joined (c .before .before .before .before .args .book .now) (c .before .before .before .before .args .i) (c .before .before .before .before .args .words .now) (sym (c .before .is-bits .ensures) ∙ c .if1 .taken)
-
-offset-requires : tie.Need-offset-requires
-offset-requires c κs = search needs
+returns c =
+    let s = c .before .before .before .before .args in
+    bits-joined (s .book .now) (s .i) (s .words .now) (sym (c .before .is-bits .ensures) ∙ c .if1 .taken)
 
 body-requires : tie.Need-body-requires
 body-requires c κs = search needs
@@ -31,16 +30,19 @@ part-read-words-end c = search needs
 
 read-words-requires : tie.Need-read-words-requires
 read-words-requires c κs =
-    let s = c .before .before .before .before .before .before .before in
-    words-room (s .args .book .now) (s .args .i) (s .args .words .now) (s .pre .0 .1) (s .pre .0 .0) (s .pre .1) _ (c .before .before .offset .ensures) _ (c .before .body .ensures) (sym (c .before .before .before .before .is-bits .ensures) ∙ c .before .before .before .if1 .left)
+    let t = c .before .before in
+    let s = t .before .before .before .before in
+    words-room (s .args .book .now) (s .args .i) (s .args .words .now) (s .pre .0 .1) (s .pre .0 .0) (s .pre .1) _ (s .pre .0 .2) _ (c .before .body .ensures) (sym (t .before .is-bits .ensures) ∙ t .if1 .left)
 
 same-length : tie.Need-same-length
 same-length c = search needs
 
 returns-2 : tie.Need-returns-2
 returns-2 c =
-    let s = c .before .before .before .before .before .before .before .before .before .before in
-    words-joined (s .args .book .now) (s .args .i) (s .args .words .now) (s .pre .0 .1) (s .pre .0 .0) (s .pre .1) _ (c .before .before .before .before .before .offset .ensures) _ (c .before .before .before .before .body .ensures) (sym (c .before .before .before .before .before .before .before .is-bits .ensures) ∙ c .before .before .before .before .before .before .if1 .left) _ (c .before .before .read-words .ensures)
+    let b = c .before .before .before .before in
+    let t = b .before in
+    let s = t .before .before .before .before in
+    words-joined (s .args .book .now) (s .args .i) (s .args .words .now) (s .pre .0 .1) (s .pre .0 .0) (s .pre .1) _ (s .pre .0 .2) _ (b .body .ensures) (sym (t .before .is-bits .ensures) ∙ t .if1 .left) _ (c .before .before .read-words .ensures)
 
 pub load-section-spec : {M : Type 1} → statement M
 load-section-spec =
@@ -48,7 +50,6 @@ load-section-spec =
     (tie.spec
     is-bits-requires
     returns
-    offset-requires
     body-requires
     mul-read-words
     sub-read-words
