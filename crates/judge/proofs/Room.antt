@@ -32,12 +32,12 @@ module _ (strict : Bool) (L : Lowering) (w0 w1 c e : ℕ) where
   again = go (isAccepted counts) refl
     where
       rest : Answer
-      rest = firstRefusal (formAnswers strict (L .source) (L .target) (L .eroots) (L .troots) ++ matchAnswers L)
+      rest = firstRefusal (formAnswers strict (L .edition) (L .source) (L .target) (L .eroots) (L .troots) ++ matchAnswers L)
 
       split : checkAnswerBy strict L w0 w1 c e ≡ andThen counts rest
       split =
           refusal-append (countAnswers (L .source) (L .target) w0 w1 c e)
-          (formAnswers strict (L .source) (L .target) (L .eroots) (L .troots) ++ matchAnswers L)
+          (formAnswers strict (L .edition) (L .source) (L .target) (L .eroots) (L .troots) ++ matchAnswers L)
 
       go : (t : Bool) → isAccepted counts ≡ t → cond t (checkAnswerBy strict L w0 w1 c e) counts ≡ checkAnswerBy strict L w0 w1 c e
       go true f = refl

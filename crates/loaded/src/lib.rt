@@ -3,14 +3,15 @@ ghost use mathlib.Core.Path.{_≡_};
 ghost use mathlib.Core.List.{[], _∷_, _++_};
 ghost use lib.Dec.{ltb};
 ghost use lib.ListN.{length, drop};
-ghost use Rattle.contents.specs.Contents.{sections};
+ghost use Rattle.sorts.specs.Sorts.{edition};
+ghost use Rattle.contents.specs.Contents.{isSecond, sections};
 ghost use Rattle.book.specs.Good.{Good};
 ghost use Rattle.bodies.specs.Words.{loaded};
 ghost use Rattle.answers.specs.Answer.{andThen};
 ghost use Rattle.answers.specs.Result.{result};
 ghost use Rattle.answers.specs.declared.Answer.the-variants.{WorkShort};
 ghost use Rattle.lowering.specs.Check.{checkBy, refuse, firstRefusal, countAnswers};
-ghost use Rattle.loaded.specs.Held.{held, bookWords};
+ghost use Rattle.loaded.specs.Held.{editionOf, held, bookWords};
 use answers::Answer;
 
 // 15 and 18, with room for some words in each of the five lists.
@@ -35,6 +36,18 @@ pub fn room_answer(book: &[u8], w0: usize, w1: usize, c: usize, e: usize, room: 
         return Answer::WorkShort(5);
     }
     Answer::Accepted
+}
+
+// The table that gives arrays their sorts: section 12 of a second edition, nothing of a first.
+fn sorts_at<'a>(book: &[u8], words: &'a [u64]) -> &'a [u64]
+    requires { ⌜ Good (now book) ⌝ }
+    requires { ⌜ now words ≡ loaded (now book) (sections (now book)) ++ drop (length (loaded (now book) (sections (now book)))) (now words) ⌝ }
+    ensures table { λ r. ⌜ edition (isSecond (now (book .entry))) (now r) ≡ editionOf (now (book .entry)) ⌝ }
+{
+    if book::is_second(book) {
+        return bodies::list_at(book, words, 11);
+    }
+    &words[0..0]
 }
 
 // Either check on the lists of a book whose words stand in a list.
@@ -65,6 +78,8 @@ pub fn check_loaded(
         bodies::list_at(book, words, 8),
         book::body(book, 9),
         bodies::list_at(book, words, 10),
+        book::is_second(book),
+        sorts_at(book, words),
         ws0,
         ws1,
         cls,

@@ -6,6 +6,15 @@ use borrow.Author.Needs.{needs}
 use Rattle.gilfrunt.proofs.gilfrunt_strict_check.Statement.{statement}
 use Rattle.gilfrunt.proofs.gilfrunt_strict_check.Tie as tie
 
+sub-none : tie.Need-sub-none
+sub-none c = search needs
+
+part-none-start : tie.Need-part-none-start
+part-none-start c = search needs
+
+part-none-end : tie.Need-part-none-end
+part-none-end c = search needs
+
 check-requires : tie.Need-check-requires
 check-requires c κs = search needs
 
@@ -23,7 +32,7 @@ same-length-4 c = search needs
 
 -- the call's place to the entry's, and the lowering that the lists are
 abbrev entry : tie.After-check → tie.Start
-entry c = let read = c .before .before .before .before .before .before .before .before .before in read .before .before .before .before .before .before .before .before .before .before .before
+entry c = let read = c .before .before .before .before .before .before .before .before .before .before in read .before .before .before .before .before .before .before .before .before .before .before
 
 abbrev input : tie.Start → Lowering
 input c =
@@ -39,4 +48,4 @@ returns : tie.Need-returns
 returns c = let call = c .before .before .before .before .before .before .before .before in (call .check .ensures .0, (demand call, call .check .ensures .1 .1))
 
 pub gilfrunt-strict-check-spec : {M : Type 1} → statement M
-gilfrunt-strict-check-spec = tie.close (tie.spec check-requires same-length same-length-2 same-length-3 same-length-4 returns)
+gilfrunt-strict-check-spec = tie.close (tie.spec sub-none part-none-start part-none-end check-requires same-length same-length-2 same-length-3 same-length-4 returns)
