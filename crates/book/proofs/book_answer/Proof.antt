@@ -1,6 +1,5 @@
 -- The tests in the definition's order; past the third the last section ends within the book. Assumes nothing.
-use Prim.Native.Nat.{_*_, _≤_, _<_}
-use mathlib.Core.Path.{_≡_}
+use Prim.Native.Nat.{_≤_}
 use native.Mathlib.Omega.{arith}
 use lib.ListN.{length}
 use Rattle.contents.specs.Contents.{contents}

@@ -1,5 +1,5 @@
 -- Invariant: no section below i is bad, and due is where section i + 1 must start. Assumes nothing.
-use Prim.Native.Nat.{ℕ, _+_, _*_, _≤_, _<_, _-_}
+use Prim.Native.Nat.{ℕ, _≤_, _<_, _-_}
 use mathlib.Core.Path.{_≡_, sym, _∙_}
 use mathlib.Core.Bool.{false}
 use native.Mathlib.Nat.{not-suc-le-zero}
@@ -8,7 +8,7 @@ use native.Mathlib.Omega.{arith}
 use borrow.Author.Count.{below-more}
 use borrow.Author.Needs.{needs}
 use Rattle.lists.proofs.First.{first-at, first-past}
-use Rattle.contents.specs.Contents.{sections, contents}
+use Rattle.contents.specs.Contents.{sections}
 use Rattle.contents.proofs.Editions.{sections-high}
 use Rattle.book.specs.Book.{dueAt, badSection}
 use Rattle.book.proofs.Shape.{good-section}

@@ -1,6 +1,5 @@
 -- The book's answer where it refuses; of a good book, its edition. Assumes nothing.
 use mathlib.Core.Path.{sym, _∙_}
-use mathlib.Core.Bool.{true, false}
 use borrow.Author.Tests.{not-true, not-false}
 use Rattle.book.proofs.Shape.{first-word, twelfth-refused, twelfth-given, twelfth-lacking}
 use borrow.Author.Needs.{needs}
