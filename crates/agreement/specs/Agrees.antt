@@ -25,12 +25,15 @@ SectionAgrees w = (hasShape w 2 1 ≡ true) × (length (given w 1) ≡ 1) × Sam
 
 -- by the operation, a case's first word
 pub data Agrees (w : List ℕ) : Type 0 where
-  source-widths : getD w 0 0 ≡ 1 → WidthsAgree true 4 w → Agrees w
-  target-widths : getD w 0 0 ≡ 2 → WidthsAgree false 3 w → Agrees w
+  source-widths : getD w 0 0 ≡ 1 → WidthsAgree true false 4 w → Agrees w
+  target-widths : getD w 0 0 ≡ 2 → WidthsAgree false false 3 w → Agrees w
   roots : getD w 0 0 ≡ 3 → RootsAgree w → Agrees w
   value-list : getD w 0 0 ≡ 4 → ValuesAgree w → Agrees w
-  lowered : getD w 0 0 ≡ 5 → CheckAgrees false w → Agrees w
+  lowered : getD w 0 0 ≡ 5 → CheckAgrees false false w → Agrees w
   book : getD w 0 0 ≡ 6 → BookAgrees false w → Agrees w
   book-section : getD w 0 0 ≡ 7 → SectionAgrees w → Agrees w
-  strictly-lowered : getD w 0 0 ≡ 8 → CheckAgrees true w → Agrees w
+  strictly-lowered : getD w 0 0 ≡ 8 → CheckAgrees true false w → Agrees w
   strict-book : getD w 0 0 ≡ 9 → BookAgrees true w → Agrees w
+  sorted-widths : getD w 0 0 ≡ 10 → WidthsAgree true true 5 w → Agrees w
+  sorted-lowered : getD w 0 0 ≡ 11 → CheckAgrees false true w → Agrees w
+  sorted-strictly : getD w 0 0 ≡ 12 → CheckAgrees true true w → Agrees w

@@ -16,15 +16,18 @@ pub fn agrees(words: &[u64]) -> bool
     }
     let operation = words[0];
     match operation {
-        1 => single::widths_agree(words, true, 4),
-        2 => single::widths_agree(words, false, 3),
+        1 => single::widths_agree(words, true, false, 4),
+        2 => single::widths_agree(words, false, false, 3),
         3 => single::roots_agree(words),
         4 => single::values_agree(words),
-        5 => paired::check_agrees(false, words),
+        5 => paired::check_agrees(false, false, words),
         6 => book_agrees(false, words),
         7 => section_agrees(words),
-        8 => paired::check_agrees(true, words),
+        8 => paired::check_agrees(true, false, words),
         9 => book_agrees(true, words),
+        10 => single::widths_agree(words, true, true, 5),
+        11 => paired::check_agrees(false, true, words),
+        12 => paired::check_agrees(true, true, words),
         _ => false,
     }
 }

@@ -39,7 +39,7 @@ pub enum Answer {
     WorkShort(u64),
     // position in the root list; graph, 0 where the operation has one list
     BadRoot(u64, u64),
-    // 0 too short for its contents, a section, 12 bytes left over, 13 too long
+    // 0 too short for its contents, a section, 12 bytes left over (14 in a second edition), 13 too long
     BookShape(u64),
     // row wider than 64 bits; graph, 0 where the operation has one
     TooWide(u64, u64),

@@ -3,9 +3,11 @@ use mathlib.Core.Path.{_≡_, _∙_, sym, ap}
 use mathlib.Core.Bool.{Bool, true, false}
 use mathlib.Core.List.{List, [], _∷_}
 use Prim.Native.Nat.{ℕ}
+use Rattle.sorts.specs.Sorts.{edition}
+use Rattle.rows.specs.declared.Graph.the-variants.{Source}
 use Rattle.answers.specs.declared.Words.{Words}
 use Rattle.answers.specs.Result.{Told, told, toldOf}
-use Rattle.widths.specs.Widths.{sourceWidths, targetWidths}
+use Rattle.widths.specs.Widths.{graphWidths, targetWidths}
 use Rattle.values.specs.Values.{values}
 use Rattle.cases.specs.Case.{given}
 use Rattle.single.specs.Single.{widthsOf}
@@ -17,22 +19,24 @@ same-one e p q = sym e ∙ rw (p, q)
 pub same-two : {R : Told} {a A : Words} {k K l L : List ℕ} → told a (k ∷ l ∷ []) ≡ R → a ≡ A → (k ≡ K) × (l ≡ L) → R ≡ told A (K ∷ L ∷ [])
 same-two e p q = sym e ∙ rw (p, q .0, q .1)
 
--- Widths: the rows and the side list are the case's; so are copies of the bits and of the lent list.
-module _ (w bits lent : List ℕ) {R : Told} {source : Bool} {rows : List ℕ} (p : rows ≡ given w 0) where
-  pub source-call : {side : List ℕ} → side ≡ given w 2 → source ≡ true
-      → R ≡ toldOf (sourceWidths rows bits side lent) → R ≡ toldOf (widthsOf source w bits lent)
-  source-call {side} q s e =
-      e ∙ ap (λ (x : List ℕ). toldOf (sourceWidths x bits side lent)) p ∙ ap (λ (x : List ℕ). toldOf (sourceWidths (given w 0) bits x lent)) q
-      ∙ ap (λ (b : Bool). toldOf (widthsOf b w bits lent)) (sym s)
+-- Widths: the rows, the side list and the sorts are the case's; so are copies of the bits and of the lent list.
+module _ (second : Bool) (w bits lent : List ℕ) {R : Told} {source : Bool} {rows : List ℕ} (p : rows ≡ given w 0) where
+  pub source-call : {side sorts : List ℕ} → side ≡ given w 2 → sorts ≡ given w 3 → source ≡ true
+      → R ≡ toldOf (graphWidths (edition second sorts) Source rows bits side lent) → R ≡ toldOf (widthsOf source second w bits lent)
+  source-call {side} {sorts} q r s e =
+      e ∙ ap (λ (x : List ℕ). toldOf (graphWidths (edition second sorts) Source x bits side lent)) p
+      ∙ ap (λ (x : List ℕ). toldOf (graphWidths (edition second sorts) Source (given w 0) bits x lent)) q
+      ∙ ap (λ (x : List ℕ). toldOf (graphWidths (edition second x) Source (given w 0) bits (given w 2) lent)) r
+      ∙ ap (λ (b : Bool). toldOf (widthsOf b second w bits lent)) (sym s)
 
-  pub target-call : source ≡ false → R ≡ toldOf (targetWidths rows bits lent) → R ≡ toldOf (widthsOf source w bits lent)
+  pub target-call : source ≡ false → R ≡ toldOf (targetWidths rows bits lent) → R ≡ toldOf (widthsOf source second w bits lent)
   target-call s e =
-      e ∙ ap (λ (x : List ℕ). toldOf (targetWidths x bits lent)) p ∙ ap (λ (b : Bool). toldOf (widthsOf b w bits lent)) (sym s)
+      e ∙ ap (λ (x : List ℕ). toldOf (targetWidths x bits lent)) p ∙ ap (λ (b : Bool). toldOf (widthsOf b second w bits lent)) (sym s)
 
-pub widths-copied : (source : Bool) (w : List ℕ) {R : Told} {b B l L : List ℕ} → b ≡ B → l ≡ L
-    → toldOf (widthsOf source w b l) ≡ R → toldOf (widthsOf source w B L) ≡ R
-widths-copied source w {R} {b} {B} {l} {L} p q e =
-    ap (λ (x : List ℕ). toldOf (widthsOf source w x L)) (sym p) ∙ ap (λ (x : List ℕ). toldOf (widthsOf source w b x)) (sym q) ∙ e
+pub widths-copied : (source second : Bool) (w : List ℕ) {R : Told} {b B l L : List ℕ} → b ≡ B → l ≡ L
+    → toldOf (widthsOf source second w b l) ≡ R → toldOf (widthsOf source second w B L) ≡ R
+widths-copied source second w {R} {b} {B} {l} {L} p q e =
+    ap (λ (x : List ℕ). toldOf (widthsOf source second w x L)) (sym p) ∙ ap (λ (x : List ℕ). toldOf (widthsOf source second w b x)) (sym q) ∙ e
 
 -- Values: the rows and the given words are the case's; so are copies of the bits and of the lent lists.
 pub values-call : (w b k l : List ℕ) {R : Told} {t g : List ℕ} → t ≡ given w 0 → g ≡ given w 2

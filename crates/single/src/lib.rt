@@ -9,32 +9,33 @@ ghost use Rattle.cases.specs.Case.{room};
 ghost use Rattle.single.specs.Single.{widthsOf, SameWidths, WidthsAgree, RootsAgree, SameValues, ValuesAgree};
 use answers::Words;
 
-fn call_widths(words: &[u64], source: bool, bits: &[u8], widths: &mut [u64]) -> Words
-    ensures outcome { λ r. ⌜ told r (now (widths .exit) ∷ []) ≡ toldOf (widthsOf source (now (words .entry)) (now (bits .entry))
+fn call_widths(words: &[u64], source: bool, second: bool, bits: &[u8], widths: &mut [u64]) -> Words
+    ensures outcome { λ r. ⌜ told r (now (widths .exit) ∷ []) ≡ toldOf (widthsOf source second (now (words .entry)) (now (bits .entry))
         (now (widths .entry))) ⌝ }
 {
     let rows = cases::given(words, 0);
     if source {
-        return gilfrunt::gilfrunt_source_widths(rows, bits, cases::given(words, 2), widths);
+        let side = cases::given(words, 2);
+        return told::source_widths(rows, bits, side, second, cases::given(words, 3), widths);
     }
     gilfrunt::gilfrunt_target_widths(rows, bits, widths)
 }
 
 // Calls on copies of the case's bits and lent list, and compares the answer and the lent list.
-fn same_widths(words: &[u64], source: bool, bits: &[u8], widths: &mut [u64]) -> bool
-    ensures agreed { λ r. ⌜ (r ≡ true → SameWidths source (now (words .entry)) (now (bits .entry)) (now (widths .entry))) ⌝ }
+fn same_widths(words: &[u64], source: bool, second: bool, bits: &[u8], widths: &mut [u64]) -> bool
+    ensures agreed { λ r. ⌜ (r ≡ true → SameWidths source second (now (words .entry)) (now (bits .entry)) (now (widths .entry))) ⌝ }
 {
-    let a = call_widths(words, source, bits, widths);
+    let a = call_widths(words, source, second, bits, widths);
     if !cases::same_answer(words, a) {
         return false;
     }
     cases::same_lent(words, 0, widths)
 }
 
-// Widths of a source or a target: the bits are list 1, the lent list is the last.
-pub fn widths_agree(words: &[u64], source: bool, lists: u64) -> bool
+// Widths of a source of either edition or a target: the bits are list 1, the lent list is the last.
+pub fn widths_agree(words: &[u64], source: bool, second: bool, lists: u64) -> bool
     requires { ⌜ (0 < lists) × (length (now words) ≤ room) ⌝ }
-    ensures agreed { λ r. ⌜ (r ≡ true → WidthsAgree source lists (now (words .entry))) ⌝ }
+    ensures agreed { λ r. ⌜ (r ≡ true → WidthsAgree source second lists (now (words .entry))) ⌝ }
 {
     if !cases::has_shape(words, lists, 1) {
         return false;
@@ -47,7 +48,7 @@ pub fn widths_agree(words: &[u64], source: bool, lists: u64) -> bool
         return false;
     }
     let n = copies::lend(cases::given(words, lists as usize - 1), &mut widths);
-    same_widths(words, source, &bytes[..b], &mut widths[..n])
+    same_widths(words, source, second, &bytes[..b], &mut widths[..n])
 }
 
 pub fn roots_agree(words: &[u64]) -> bool

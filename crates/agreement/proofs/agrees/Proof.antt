@@ -1,6 +1,7 @@
 -- Each operation by its function, which the first word chooses. Assumes nothing.
 use mathlib.Core.Bool.{false≢true}
 use Rattle.agreement.specs.Agrees.{source-widths, target-widths, roots, value-list, lowered, book, book-section, strictly-lowered, strict-book}
+use Rattle.agreement.specs.Agrees.{sorted-widths, sorted-lowered, sorted-strictly}
 use borrow.Author.Needs.{needs}
 use Rattle.agreement.proofs.agrees.Statement.{statement}
 use Rattle.agreement.proofs.agrees.Tie as tie
@@ -38,6 +39,15 @@ check-agrees-requires-2 c κs = search needs
 book-agrees-requires-2 : tie.Need-book-agrees-requires-2
 book-agrees-requires-2 c κs = search needs
 
+widths-agree-requires-3 : tie.Need-widths-agree-requires-3
+widths-agree-requires-3 c κs = search needs
+
+check-agrees-requires-3 : tie.Need-check-agrees-requires-3
+check-agrees-requires-3 c κs = search needs
+
+check-agrees-requires-4 : tie.Need-check-agrees-requires-4
+check-agrees-requires-4 c κs = search needs
+
 returns-2 : tie.Need-returns-2
 returns-2 c = λ e. source-widths (c .before .match .keys1) (c .widths-agree .ensures e)
 
@@ -66,7 +76,16 @@ returns-10 : tie.Need-returns-10
 returns-10 c = λ e. strict-book (c .before .match .keys9) (c .book-agrees2 .ensures e)
 
 returns-11 : tie.Need-returns-11
-returns-11 c = λ e. absurd (false≢true e)
+returns-11 c = λ e. sorted-widths (c .before .match .keys10) (c .widths-agree3 .ensures e)
+
+returns-12 : tie.Need-returns-12
+returns-12 c = λ e. sorted-lowered (c .before .match .keys11) (c .check-agrees3 .ensures e)
+
+returns-13 : tie.Need-returns-13
+returns-13 c = λ e. sorted-strictly (c .before .match .keys12) (c .check-agrees4 .ensures e)
+
+returns-14 : tie.Need-returns-14
+returns-14 c = λ e. absurd (false≢true e)
 
 pub agrees-spec : {M : Type 1} → statement M
 agrees-spec =
@@ -83,6 +102,9 @@ agrees-spec =
     section-agrees-requires
     check-agrees-requires-2
     book-agrees-requires-2
+    widths-agree-requires-3
+    check-agrees-requires-3
+    check-agrees-requires-4
     returns-2
     returns-3
     returns-4
@@ -92,4 +114,7 @@ agrees-spec =
     returns-8
     returns-9
     returns-10
-    returns-11)
+    returns-11
+    returns-12
+    returns-13
+    returns-14)

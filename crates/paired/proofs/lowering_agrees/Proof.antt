@@ -14,6 +14,9 @@ slice-aggregate-lend c = search needs
 lend-requires : tie.Need-lend-requires
 lend-requires c κs = search needs
 
+add-given : tie.Need-add-given
+add-given c = search needs
+
 given-requires-2 : tie.Need-given-requires-2
 given-requires-2 c κs = search needs
 
@@ -23,6 +26,9 @@ slice-aggregate-lend-2 c = search needs
 lend-requires-2 : tie.Need-lend-requires-2
 lend-requires-2 c κs = search needs
 
+add-given-2 : tie.Need-add-given-2
+add-given-2 c = search needs
+
 given-requires-3 : tie.Need-given-requires-3
 given-requires-3 c κs = search needs
 
@@ -31,6 +37,9 @@ slice-aggregate-lend-3 c = search needs
 
 lend-requires-3 : tie.Need-lend-requires-3
 lend-requires-3 c κs = search needs
+
+add-given-3 : tie.Need-add-given-3
+add-given-3 c = search needs
 
 given-requires-4 : tie.Need-given-requires-4
 given-requires-4 c κs = search needs
@@ -85,7 +94,7 @@ returns c =
     let ws1 = at-lend2 .lend2 .ensures .1 ∙ at-given2 .given2 .ensures .0 in
     let classes = at-lend3 .lend3 .ensures .1 ∙ at-given3 .given3 .ensures .0 in
     let entries = at-lend4 .lend4 .ensures .1 ∙ at-given4 .given4 .ensures .0 in
-    λ e. check-lent (a .strict) (a .words .now) (a .ebits .now) (a .tbits .now) ws0 ws1 classes entries (at-same-check .same-check .ensures e)
+    λ e. check-lent (a .strict) (a .second) (a .words .now) (a .ebits .now) (a .tbits .now) ws0 ws1 classes entries (at-same-check .same-check .ensures e)
 
 pub lowering-agrees-spec : {M : Type 1} → statement M
 lowering-agrees-spec =
@@ -94,12 +103,15 @@ lowering-agrees-spec =
     given-requires
     slice-aggregate-lend
     lend-requires
+    add-given
     given-requires-2
     slice-aggregate-lend-2
     lend-requires-2
+    add-given-2
     given-requires-3
     slice-aggregate-lend-3
     lend-requires-3
+    add-given-3
     given-requires-4
     slice-aggregate-lend-4
     lend-requires-4

@@ -10,14 +10,23 @@ given-requires c κs = search needs
 given-requires-2 : tie.Need-given-requires-2
 given-requires-2 c κs = search needs
 
-gilfrunt-source-widths-requires : tie.Need-gilfrunt-source-widths-requires
-gilfrunt-source-widths-requires c κs = search needs
+given-requires-3 : tie.Need-given-requires-3
+given-requires-3 c κs = search needs
+
+source-widths-requires : tie.Need-source-widths-requires
+source-widths-requires c κs = search needs
 
 same-length : tie.Need-same-length
 same-length c = search needs
 
 returns : tie.Need-returns
-returns c = let a = c .before .before .before .before .before .before .before .before .before .before .args in source-call (a .words .now) (a .bits .now) (a .widths .now) (c .before .before .before .before .before .before .given .ensures .0) (c .before .before .before .before .given2 .ensures .0) (c .before .before .before .before .before .if1 .taken) (c .before .before .gilfrunt-source-widths .ensures)
+returns c =
+    let table = c .before .before .before .before in
+    let side = table .before in
+    let rows = side .before .before in
+    let a = rows .before .before .before .before .args in
+    source-call (a .second) (a .words .now) (a .bits .now) (a .widths .now) (rows .given .ensures .0) (side .given2 .ensures .0) (table .given3 .ensures .0) (side .before .if1 .taken)
+    (c .before .before .source-widths .ensures)
 
 gilfrunt-target-widths-requires : tie.Need-gilfrunt-target-widths-requires
 gilfrunt-target-widths-requires c κs = search needs
@@ -26,7 +35,7 @@ same-length-2 : tie.Need-same-length-2
 same-length-2 c = search needs
 
 returns-2 : tie.Need-returns-2
-returns-2 c = let a = c .before .before .before .before .before .before .before .before .before .args in target-call (a .words .now) (a .bits .now) (a .widths .now) (c .before .before .before .before .before .given .ensures .0) (c .before .before .before .before .if1 .left) (c .before .before .gilfrunt-target-widths .ensures)
+returns-2 c = let a = c .before .before .before .before .before .before .before .before .before .args in target-call (a .second) (a .words .now) (a .bits .now) (a .widths .now) (c .before .before .before .before .before .given .ensures .0) (c .before .before .before .before .if1 .left) (c .before .before .gilfrunt-target-widths .ensures)
 
 pub call-widths-spec : {M : Type 1} → statement M
 call-widths-spec =
@@ -34,7 +43,8 @@ call-widths-spec =
     (tie.spec
     given-requires
     given-requires-2
-    gilfrunt-source-widths-requires
+    given-requires-3
+    source-widths-requires
     same-length
     returns
     gilfrunt-target-widths-requires
