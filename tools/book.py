@@ -25,7 +25,7 @@ import sys
 from draw import draw
 from explain import LIMIT, explain
 from graph import MAX
-from listing import BadListing, decode, listing, parse
+from listing import BadListing, decode, edition_of, listing, parse
 
 TOP = os.path.dirname(os.path.dirname(os.path.abspath(__file__)))
 SECONDS = 60  # for verdict
@@ -77,7 +77,7 @@ def show(options):
         print(listing(bodies), end="")
         return 0
     print("\n".join(explain(data, (20, place, 0))), file=sys.stderr)
-    print(listing(bodies), end="", file=sys.stderr)
+    print(listing(bodies, edition_of(data)), end="", file=sys.stderr)
     return 1
 
 

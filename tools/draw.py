@@ -24,6 +24,7 @@ EDGE = 14  # around the picture
 GAP = 110  # between the graphs
 TOP = 48  # above the first row
 LONGEST = 72  # letters in a box
+SHOWN = 6  # arrays below the picture
 
 STYLE = """\
 text { font: 12px monospace; fill: #222; }
@@ -278,13 +279,20 @@ def legend(rows):
     return [text for style, text in LEGEND if style in styles]
 
 
+def sort_notes(book):
+    """The widths of the arrays that a second edition lists, the first few."""
+    arrays = list(book.sorts.listed)
+    return ([book.sorts.text(array) for array in arrays[:SHOWN]]
+            + ([f".. and {len(arrays) - SHOWN} more"] if len(arrays) > SHOWN else []))
+
+
 def draw(bodies):
     """The picture of a book's bodies."""
     book = Book(bodies)
     rows, target_rows = rows_of(book)
     source, target = Side(rows, True), Side(target_rows, False)
     source.x, target.x = EDGE, EDGE + source.width + GAP
-    notes = legend(rows + target_rows)
+    notes = legend(rows + target_rows) + sort_notes(book)
     width = max(target.x + target.width + EDGE,
                 2 * EDGE + round(LETTER * max(map(len, notes), default=0)))
     bottom = TOP + max(source.height, target.height)

@@ -9,8 +9,8 @@ from typing import NamedTuple, Optional, Union
 
 from graph import (CEILING, CORE_TAGS, MAX, TAGS, Function, bits_text, counted, fill, shortened,
                    tag_of, word_text, words_text)
-from listing import (BITS, CALL, CONTENTS, READ, SECTIONS, Book, decode, entry_text, table_entries,
-                     unpack)
+from listing import (BITS, CALL, EDITIONS, FIRST, READ, SORT, Book, decode, edition_of, entry_text,
+                     table_entries, unpack)
 
 LIMIT = 65536  # bytes that verdict reads
 
@@ -118,7 +118,7 @@ def few(lines, most=7):
     return lines if len(lines) <= most else lines[:most - 1] + [".. and others"]
 
 
-# Graphs: 15, 16, 17, 1, 2
+# Graphs: 15, 16, 17, 28, 1, 2
 
 def graph_of(book, which):
     return book.source if which == 1 else book.target
@@ -145,6 +145,13 @@ def bad_bit(book, place, detail):
     return [f"{graph.name} bits, position {place}: {words_text(graph.bits[place:place + 1])}"]
 
 
+def sort_table(book, place, detail):
+    entries = book.sorts.entries
+    if place >= len(entries):
+        return [f"sort entry {word_text(place)}: there is none"]
+    return [f"sort entry {place}: {entry_text(SORT, entries[place])}"] + book.sorts.faults(place)
+
+
 def ill_formed(graph, place):
     lines = [row_line(graph, place)]
     tag = tag_of(graph.rows[place], graph.size) if place < len(graph.rows) else None
@@ -152,6 +159,8 @@ def ill_formed(graph, place):
         return lines
     fields = graph.rows[place][1:]
     lines += [f"{tag.name} needs {tag.shape.needs}"]
+    if tag.name == "Select":
+        lines += [array_line(graph.sorts, fields[0])]
     width = graph.asked_width(graph.rows[place])
     if width > CEILING:
         lines += [f"it would have {width:,} bits; no row may have more than {CEILING:,}"]
@@ -160,6 +169,14 @@ def ill_formed(graph, place):
         return lines + [f"its stretch ends past the {len(graph.side)} words of its list"]
     return lines + [row_line(graph, row) if row < place
                     else f"{word_text(row)} is no earlier row" for row in named]
+
+
+def array_line(sorts, array):
+    """The widths of an array; where it is not listed, the arrays that are."""
+    if sorts.of(array) is None:
+        listed = shortened(map(word_text, sorts.listed))
+        return sorts.text(array) + (f"; those that are: {listed}" if listed else "; none is")
+    return sorts.text(array)
 
 
 def side_rows(graph, name, fields):
@@ -197,13 +214,23 @@ def read_table(book, place, detail):
     line, words = entry_at(table("read", READ, book.reads), place)
     if len(words) < 3:
         return [line, "an entry is three words"]
-    variable, _, index = words
-    lines = [line]
-    if book.target.node(variable) != ("Var", (8, 0, 0)):
-        lines += ["the variable must be a Var of 8 bits; " + row_line(book.target, variable)]
-    if book.target.width_at(index) != 32:
-        lines += ["the index must be a row of 32 bits; " + row_line(book.target, index)]
-    return lines + repeated(reads(book)[:place], reads(book)[place])
+    variable, array, index = words
+    return ([line] + read_widths(book, variable, array, index)
+            + repeated(reads(book)[:place], reads(book)[place]))
+
+
+def read_widths(book, variable, array, index):
+    """What does not fit the array's widths."""
+    line, sort, lines = array_line(book.sorts, array), book.sorts.of(array), []
+    if sort is None:
+        return [line]
+    if book.target.node(variable) != ("Var", (sort.cell, 0, 0)):
+        lines += [f"the variable must be a Var of {bits_text(sort.cell)}; "
+                  + row_line(book.target, variable)]
+    if book.target.width_at(index) != sort.index:
+        lines += [f"the index must be a row of {bits_text(sort.index)}; "
+                  + row_line(book.target, index)]
+    return [line] + lines if lines else []
 
 
 def call_table(book, place, detail):
@@ -416,17 +443,32 @@ def bad_root(book, place, detail):
 
 def shape_lines(data, place):
     """Why a book is none, by the place of 20."""
-    if place == 0:
-        return [f"the book has {len(data)} bytes, its contents alone take {CONTENTS}"]
     if place == 13:
         return [f"the book has {len(data)} bytes; verdict reads at most {LIMIT}"]
-    if len(data) < CONTENTS or place > 12:
+    edition = edition_of(data)
+    lines = [f"section 1 starts at {edition.contents}, as in the {edition.name} edition, which "
+             f"has {len(edition.sections)} sections"] if edition else []
+    if place == 0:
+        return lines + [f"the book has {len(data)} bytes, its contents alone take "
+                        f"{(edition or FIRST).contents}"]
+    if edition is None:
+        starts = [f"{known.contents} ({known.name} edition)" for known in EDITIONS]
+        return [f"section 1 starts at {words_text(unpack(data[:8]))}; "
+                f"it must start at {' or '.join(starts)}"]
+    return lines + section_shape(data, edition, place)
+
+
+def section_shape(data, edition, place):
+    """What is wrong with a section, or behind the last one."""
+    if len(data) < edition.contents:
         return []
-    end = CONTENTS + sum(map(len, decode(data)[0][:place - 1]))
-    if place == 12:
+    end = edition.contents + sum(map(len, decode(data)[0][:place - 1]))
+    if place == edition.left:
         return [f"the sections end at byte {end}, the book has {len(data)}"]
-    start, length = unpack(data[:CONTENTS])[2 * place - 2:2 * place]
-    section = SECTIONS[place - 1]
+    if place > len(edition.sections):
+        return []
+    start, length = unpack(data[:edition.contents])[2 * place - 2:2 * place]
+    section = edition.sections[place - 1]
     whole = "" if section.form == BITS else ", be whole words of 8 bytes"
     return [f"section {place}, {section.name}: start {start}, length {length}",
             f"it must start at {end}{whole} and end within the book's {len(data)} bytes"]
@@ -444,6 +486,8 @@ def text_lines(data):
 def accepted(book, strict):
     leading = len(book.roots)
     added = ["every root, of source and target, is a row of one bit"] if strict else []
+    if book.sorts.second:
+        added += [f"second edition: {counted(len(book.sorts.entries), 'array')} listed"]
     return ["either both source and target are satisfiable, or neither is", *added,
             f"source: {counted(len(book.source.rows), 'row')}, {counted(leading, 'root')}",
             f"target: {counted(len(book.target.rows), 'row')}, {counted(leading, 'leading root')}, "
@@ -474,6 +518,8 @@ ANSWERS = {
     17: ("BadBit", "a bit is neither 0 nor 1", bad_bit),
     18: ("WorkShort", "a work list is too short", lambda book, place, detail: []),
     19: ("BadRoot", "a root is not a row of one bit", bad_root),
+    28: ("SortTable", "an entry of the sort table is cut, does not rise by array, or has a width "
+         "of 0", sort_table),
 }
 
 
@@ -487,7 +533,10 @@ def explain(data, answer, strict=False):
         return ["the bytes are no book, yet the answer is not 20"]
     if number == 0:
         return accepted(Book(bodies), strict)
+    book = Book(bodies)
     if number not in ANSWERS or (number == 19 and detail not in (1, 2)):
         return [f"{number} is no answer to a book"]
+    if number == 28 and not book.sorts.second:
+        return ["28 is no answer to a book of the first edition"]
     name, meaning, show = ANSWERS[number]
-    return [f"{number} {name}: {meaning}"] + show(Book(bodies), place, detail)
+    return [f"{number} {name}: {meaning}"] + show(book, place, detail)

@@ -10,7 +10,7 @@ from typing import Callable, NamedTuple
 
 MAX = 2**64 - 1
 CEILING = 4096  # no row is wider
-SOURCE_WORDS, TARGET_WORDS = 5, 4
+SOURCE_WORDS, TARGET_WORDS, SORT_WORDS = 5, 4, 3
 CORE_TAGS = 37
 
 
@@ -58,12 +58,13 @@ def ite_width(graph, c, t, e):
 
 
 def select_width(graph, array, index, start, count):
-    pairs = graph.pairs(start, count)
-    good = graph.width_at(index) == 32 and pairs is not None
-    if not good:
+    sort, pairs = graph.sorts.of(array), graph.pairs(start, count)
+    if sort is None or pairs is None:
         return 0
-    fits = (graph.width_at(x) == 32 and graph.width_at(v) == 8 for x, v in pairs)
-    return 8 if all(fits) else 0
+    indices, values = [index] + [x for x, _ in pairs], [v for _, v in pairs]
+    good = (all(graph.width_at(x) == sort.index > 0 for x in indices)
+            and all(graph.width_at(v) == sort.cell for v in values))
+    return sort.cell if good else 0
 
 
 def call_width(graph, function, width, start, count):
@@ -88,8 +89,8 @@ ITE = Shape("# # #", "c a b", (0, 1, 2), ite_width,
 NOT = Shape("#", "a", (0,), bool_width, "an earlier row of width 1")
 UN = Shape("#", "a", (0,), lambda graph, a: graph.width_at(a), "an earlier row")
 SELECT = Shape("array # index # pairs #+#", "array index start count", (1,), select_width,
-               "an earlier index row of width 32, and pairs of an earlier index "
-               "row of width 32 and an earlier value row of width 8")
+               "an earlier index row of the array's index width, and pairs of an earlier index row "
+               "of that width and an earlier value row of the array's cell width, at most 4,096")
 CALL = Shape("function # width # arguments #+#", "function width start count", (), call_width,
              "a width of 1 to 4,096 and earlier rows as arguments")
 
@@ -193,11 +194,58 @@ def list_text(widths):
     return shortened(texts) + (" bit" if widths == (1,) else " bits")
 
 
+class Sort(NamedTuple):
+    """The widths of an array."""
+
+    index: int
+    cell: int
+
+    def text(self):
+        return f"indices of {bits_text(self.index)}, cells of {bits_text(self.cell)}"
+
+
+class Sorts:
+    """The widths of the arrays, by a sort table or, without one, the same for all."""
+
+    PLAIN = Sort(32, 8)  # without a table
+
+    def __init__(self, entries=None):
+        """The entries of a table, the last may be cut; None in a first edition."""
+        self.second, self.entries = entries is not None, entries or []
+        self.listed = {}
+        for entry in self.entries:
+            if len(entry) == SORT_WORDS:
+                self.listed.setdefault(entry[0], Sort(*entry[1:]))
+
+    def of(self, array):
+        """The widths of an array, None where it is not listed."""
+        return self.listed.get(array) if self.second else self.PLAIN
+
+    def text(self, array):
+        """An array with its widths, or that it has none."""
+        name, sort = f"array {word_text(array)}", self.of(array)
+        if sort is None:
+            return f"{name} is not listed"
+        return f"{name}: {sort.text()}" + ("" if self.second else ", as all in a first edition")
+
+    def faults(self, place):
+        """What is wrong with an entry: it is cut, does not rise by array, has a width of 0."""
+        entry, before = self.entries[place], self.entries[place - 1] if place else None
+        if len(entry) < SORT_WORDS:
+            return ["an entry is three words"]
+        lines = []
+        if before and entry[0] <= before[0]:
+            lines += [f"array {word_text(entry[0])} is not above array {word_text(before[0])}, "
+                      "which stands before it"]
+        return lines + [f"the {name} width is 0"
+                        for name, width in zip(Sort._fields, entry[1:]) if width == 0]
+
+
 class Graph:
     """The rows of a source or a target, each with its width."""
 
-    def __init__(self, name, words, size, bits, side=()):
-        self.name, self.size, self.bits, self.side = name, size, bits, side
+    def __init__(self, name, words, size, bits, side=(), sorts=Sorts()):
+        self.name, self.size, self.bits, self.side, self.sorts = name, size, bits, side, sorts
         self.rows = [words[at:at + size] for at in range(0, len(words), size)]
         self.widths = []
         for row in self.rows:

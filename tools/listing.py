@@ -8,13 +8,13 @@ import re
 import struct
 from typing import NamedTuple
 
-from graph import (MAX, SOURCE_WORDS, TARGET_WORDS, Graph, fill, known_tags, word_text,
-                   words_text)
+from graph import (MAX, SORT_WORDS, SOURCE_WORDS, TARGET_WORDS, Graph, Sorts, fill, known_tags,
+                   word_text, words_text)
 
-CONTENTS = 176  # bytes of the table of contents
 BITS, ROW, PLAIN = "bits", "row", "plain"
 READ = "variable # array # index #"
 CALL = "variable # function # arguments #+#"
+SORT = "array # index width # cell width #"
 
 
 class Section(NamedTuple):
@@ -38,10 +38,27 @@ SECTIONS = (
     Section("target bits", 1, BITS, "bits of the Const rows, lowest first"),
     Section("target roots", 1, PLAIN,
             "target rows: images of the source roots, congruence roots"),
+    Section("sorts", SORT_WORDS, SORT, "the widths of arrays, rising by array"),
 )
-MAP = SECTIONS[4]
+MAP, SORTS = SECTIONS[4], SECTIONS[11]
 LOOKS = ("a listing is a section's name on a line of its own, with its lines below, as "
          "`source`, then `0: Var 32`; samples/*.txt are listings, docs/BOOKS.md has the form")
+
+
+class Edition(NamedTuple):
+    """A form of book. The sort table makes it the second."""
+
+    name: str
+    sections: tuple
+    left: int  # the place of 20 for bytes left over
+
+    @property
+    def contents(self):
+        """Bytes of the table of contents; there the first section starts."""
+        return 16 * len(self.sections)
+
+
+FIRST, SECOND = EDITIONS = (Edition("first", SECTIONS[:11], 12), Edition("second", SECTIONS, 14))
 
 
 class BadListing(Exception):
@@ -59,27 +76,36 @@ def unpack(data):
 
 
 def encode(bodies):
-    """The book of eleven bodies."""
-    contents, start = [], CONTENTS
+    """The book of eleven bodies, or of twelve."""
+    contents, start = [], 16 * len(bodies)
     for body in bodies:
         contents += [start, len(body)]
         start += len(body)
     return pack(contents) + b"".join(bodies)
 
 
+def edition_of(book):
+    """The edition that a book's first word tells, or None."""
+    known = [edition for edition in EDITIONS if book[:8] == pack([edition.contents])]
+    return known[0] if known else None
+
+
 def decode(book):
     """The bodies before the first bad section, and the place of 20 or None."""
-    if len(book) < CONTENTS:
+    edition = edition_of(book)
+    if len(book) < (edition or FIRST).contents:
         return [], 0
-    contents, bodies, end = unpack(book[:CONTENTS]), [], CONTENTS
-    for number, section in enumerate(SECTIONS, 1):
+    if edition is None:
+        return [], 1
+    contents, bodies, end = unpack(book[:edition.contents]), [], edition.contents
+    for number, section in enumerate(edition.sections, 1):
         start, length = contents[2 * number - 2:2 * number]
         whole = section.form == BITS or length % 8 == 0
         if start != end or length > len(book) - start or not whole:
             return bodies, number
         end = start + length
         bodies.append(book[start:end])
-    return bodies, (None if end == len(book) else len(SECTIONS) + 1)
+    return bodies, (None if end == len(book) else edition.left)
 
 
 class Book:
@@ -90,8 +116,9 @@ class Book:
         lists = [body if section.form == BITS else unpack(body)
                  for section, body in zip(SECTIONS, bodies)]
         (source, ebits, self.side, self.roots, self.map, self.reads, self.calls,
-         self.arguments, target, tbits, self.target_roots) = lists
-        self.source = Graph("source", source, SOURCE_WORDS, ebits, self.side)
+         self.arguments, target, tbits, self.target_roots) = lists[:11]
+        self.sorts = Sorts(*(table_entries(SORT, words) for words in lists[11:]))
+        self.source = Graph("source", source, SOURCE_WORDS, ebits, self.side, self.sorts)
         self.target = Graph("target", target, TARGET_WORDS, tbits)
 
     def image(self, row):
@@ -240,7 +267,8 @@ def read_body_line(place, bodies, line):
 
 
 def parse(text):
-    """The book of a listing. BadListing's arguments are line number and message."""
+    """The book of a listing, a second edition if it has the section `sorts`, also an empty one.
+    BadListing's arguments are line number and message."""
     names, bodies, place = section_names(), [bytearray() for _ in SECTIONS], None
     seen = set()
     for at, line in enumerate(text.split("\n"), 1):
@@ -256,7 +284,8 @@ def parse(text):
                 bodies[place] += added
         except BadListing as error:
             raise BadListing(at, str(error)) from None
-    return encode(bodies)
+    edition = SECOND if SECTIONS.index(SORTS) in seen else FIRST
+    return encode(bodies[:len(edition.sections)])
 
 
 # From book to listing: lines as a text and a note
@@ -277,15 +306,26 @@ def table_entries(form, words):
     return [words[at:at + size] for at in range(0, len(words), size)]
 
 
-def entries_lines(form, words):
-    return [(f"{k}: " + entry_text(form, entry), "")
-            for k, entry in enumerate(table_entries(form, words))]
+def entries_lines(form, entries, note):
+    """A line an entry, with a note by its place and words."""
+    return [(f"{place}: " + entry_text(form, entry), note(place, entry))
+            for place, entry in enumerate(entries)]
+
+
+def reads_lines(book):
+    """In a second edition with the array's widths."""
+    return entries_lines(READ, table_entries(READ, book.reads), lambda _, entry: book.sorts.text(
+        entry[1]) if book.sorts.second and len(entry) == 3 else "")
 
 
 def calls_lines(book):
-    notes = [book.call(entry)[0].text() if len(entry) == 4 else ""
-             for entry in table_entries(CALL, book.calls)]
-    return [(text, note) for (text, _), note in zip(entries_lines(CALL, book.calls), notes)]
+    return entries_lines(CALL, table_entries(CALL, book.calls), lambda _, entry: book.call(
+        entry)[0].text() if len(entry) == 4 else "")
+
+
+def sorts_lines(book):
+    return entries_lines(SORT, book.sorts.entries,
+                         lambda place, _: "; ".join(book.sorts.faults(place)))
 
 
 def map_lines(book):
@@ -336,19 +376,18 @@ def section_lines(book, place):
            "source roots": lambda: roots_lines(book.source, book.roots),
            "target roots": lambda: roots_lines(book.target, book.target_roots),
            "map": lambda: map_lines(book),
-           "calls": lambda: calls_lines(book)}
+           "reads": lambda: reads_lines(book),
+           "calls": lambda: calls_lines(book),
+           "sorts": lambda: sorts_lines(book)}
     if section.name in own:
         return own[section.name]()
-    if section.form == BITS:
-        return bits_lines(body)
-    if section.form == PLAIN:
-        return plain_lines(unpack(body))
-    return entries_lines(section.form, unpack(body))
+    return bits_lines(body) if section.form == BITS else plain_lines(unpack(body))
 
 
-def listing(bodies):
-    """The listing of a book's bodies; those that are missing are left out."""
-    book = Book(bodies + [b""] * (len(SECTIONS) - len(bodies)))
+def listing(bodies, edition=None):
+    """The listing of a book's bodies; those that the edition has more are left out, as if empty."""
+    missing = len((edition or FIRST).sections) - len(bodies)
+    book = Book(bodies + [b""] * missing)
     text = ""
     for place, body in enumerate(bodies):
         section = SECTIONS[place]
