@@ -16,11 +16,13 @@ import xml.etree.ElementTree as xml
 import book as command
 from draw import draw, lanes
 from explain import ANSWERS, due, explain
-from graph import MAX, TAGS, Function, known_tags
-from listing import SECTIONS, BadListing, BITS, ROW, Book, decode, encode, listing, pack, parse
+from graph import MAX, SOURCE_WORDS, TAGS, Function, Graph, Sort, Sorts, known_tags
+from listing import (EDITIONS, FIRST, SECOND, SECTIONS, SORTS, BadListing, BITS, ROW, Book, decode,
+                     edition_of, encode, listing, pack, parse)
 
 TOP = command.TOP
 SAMPLES = sorted(glob.glob(os.path.join(TOP, "samples", "*.txt")))
+BOOKS = sorted(glob.glob(os.path.join(TOP, "samples", "*.book")))
 VERDICT = os.path.join(TOP, "target", "bin", "verdict")
 STRICT_VERDICT = os.path.join(TOP, "target", "bin", "strict_verdict")
 built = unittest.skipUnless(os.path.exists(VERDICT), "rt check verdict builds target/bin/verdict")
@@ -50,6 +52,11 @@ def strict_line(name):
     return sample(name, ".strict" if differs(name) else ".line")
 
 
+def shapeless():
+    """The samples that are no books, and so have no listing."""
+    return [stem(path) for path in BOOKS if not os.path.exists(path[:-len("book")] + "txt")]
+
+
 def answer_of(line):
     """Number, place and detail of a printed line."""
     return tuple(map(int, line.split()[1:])) or (0, 0, 0)
@@ -71,6 +78,13 @@ def random_row(random_, size, rows):
     return [tag] + fields + [0] * (size - 1 - used)
 
 
+def random_sorts(random_, count):
+    """A sort table that rises, with arrays that random rows name."""
+    arrays = sorted(random_.sample([0, 1, 2, 3, 8, 32, MAX - 1, MAX], count))
+    return [word for array in arrays
+            for word in (array, random_.choice([1, 8, 32]), random_.choice([1, 8, 32, 4097]))]
+
+
 def random_body(random_, section):
     """A body in which some words are no rows, no entries, or cut."""
     count = random_.randrange(6)
@@ -79,6 +93,8 @@ def random_body(random_, section):
                      else random_.randrange(2) for _ in range(count * 15))
     if section.form == ROW and random_.random() < 0.8:
         words = [word for row in range(count) for word in random_row(random_, section.size, row)]
+    elif section is SORTS and random_.random() < 0.7:
+        words = random_sorts(random_, count)
     else:
         words = [random_word(random_, count) for _ in range(count * section.size)]
     if random_.random() < 0.2:
@@ -87,8 +103,10 @@ def random_body(random_, section):
 
 
 def random_bodies(seed):
+    """The bodies of a book of either edition."""
     random_ = random.Random(seed)
-    return [random_body(random_, section) for section in SECTIONS]
+    bodies = [random_body(random_, section) for section in SECTIONS]
+    return bodies[:len(random_.choice(EDITIONS).sections)]
 
 
 def damaged(seed):
@@ -105,9 +123,10 @@ def damaged(seed):
 
 class RoundTrip(unittest.TestCase):
     def assert_same(self, bodies):
-        made = encode(bodies)
+        made, text = encode(bodies), listing(bodies)
         self.assertEqual(decode(made), (bodies, None))
-        self.assertEqual(parse(listing(bodies)), made)
+        self.assertEqual(parse(text), made)
+        self.assertEqual(listing(decode(parse(text))[0]), text)
 
     def test_random(self):
         for seed in range(400):
@@ -128,10 +147,36 @@ class RoundTrip(unittest.TestCase):
                     pack([tag] + [7] * used + [0] * (size - 1 - used)) for tag in range(41))
                 self.assert_same(bodies)
 
+    def test_both_editions_are_tried(self):
+        made = [(edition_of(encode(random_bodies(seed))), edition_of(encode(damaged(seed))))
+                for seed in range(400)]
+        for edition in EDITIONS:
+            for found in zip(*made):
+                self.assertGreater(found.count(edition), 100)
+
     def test_good_rows_are_named(self):
         text = listing(decode(sample("reply", ".book"))[0])
         self.assertNotIn("words ", text)
         self.assertIn("Ugt 22 23", text)
+
+    def test_arrays_of_reads_are_noted(self):
+        """In a second edition alone."""
+        self.assertNotIn("indices", listing(decode(sample("reply", ".book"))[0]))
+        text = listing(decode(sample("new-scale-unlisted-read", ".book"))[0])
+        self.assertEqual(re.findall(r"(?m)^  [0-4]: variable \d+ .* # (.*)$", text), [
+            "array 0: indices of 16 bits, cells of 16 bits"] * 2 + [
+            "array 1: indices of 8 bits, cells of 8 bits", "array 2 is not listed",
+            "array 0: indices of 16 bits, cells of 16 bits"])
+
+    def test_bad_sorts_are_noted(self):
+        text = listing(decode(parse("sorts\n words 7 0 8  7 16 0  8 1 1  MAX 0 0  MAX 1\n"))[0])
+        self.assertEqual(re.findall(r"(?m)^  \d: (.*?)(?: +# (.*))?$", text), [
+            ("array 7 index width 0 cell width 8", "the index width is 0"),
+            ("array 7 index width 16 cell width 0",
+             "array 7 is not above array 7, which stands before it; the cell width is 0"),
+            ("array 8 index width 1 cell width 1", ""),
+            ("array MAX index width 0 cell width 0", "the index width is 0; the cell width is 0"),
+            ("words MAX 1", "an entry is three words")])
 
     def test_roots_of_other_widths_are_marked(self):
         text = listing(decode(sample("wide-root", ".book"))[0])
@@ -190,6 +235,11 @@ BAD_LISTINGS = [
     ("source bits\n value 4 width 2\n", 2, "does not fit its width"),
     ("source bits\n value 0 width 99999\n", 2, "does not fit its width"),
     ("source bits\n 0: 11\n 1: 11\n", 3, "the label is 1, but this is 2"),
+    ("sorts\n 0 16 16\n", 2, "not of the form `array # index width # cell width #`"),
+    ("sorts\n array 0 index 16 cell 16\n", 2, "not of the form `array # index width #"),
+    ("sorts\n words 0 16 16\n 2: array 1 index width 8 cell width 8\n", 3, "but this is 1"),
+    ("sorts\nsource\n Var 8\nsorts\n", 4, "twice the section"),
+    ("source\n Var 8\nsort\n", 3, "is `sorts` meant?"),
 ]
 
 
@@ -202,10 +252,19 @@ class Listings(unittest.TestCase):
                 self.assertEqual(caught.exception.args[0], line)
                 self.assertIn(message, caught.exception.args[1])
 
+    def test_sorts_make_the_second_edition(self):
+        """Also an empty section does, in any place."""
+        self.assertEqual(parse("source\n Var 8\n")[:8], pack([176]))
+        for text in ("sorts\n", "source\n Var 8\nsorts\n", "sorts # none\nsource\n Var 8\n"):
+            self.assertEqual(parse(text)[:8], pack([192]))
+        self.assertEqual(parse("sorts\n"), sample("empty-second", ".book"))
+        self.assertNotIn("sorts", listing([b""] * 11))
+        self.assertIn("\nsorts ", listing([b""] * 12))
+
     def test_any_damage_is_a_message(self):
-        text = sample("empty-reply", ".txt").decode()
         for seed in range(600):
             random_ = random.Random(seed)
+            text = sample(random_.choice(["empty-reply", "new-scale"]), ".txt").decode()
             at = random_.randrange(len(text))
             piece = random_.choice(["", ":", "#", "-", "+", "9" * 30, "\n", "x", "words", "\0"])
             try:
@@ -216,19 +275,45 @@ class Listings(unittest.TestCase):
 
 class Shapes(unittest.TestCase):
     def test_places(self):
-        good = sample("case-1", ".book")
-        self.assertEqual(decode(good[:175])[1], 0)
-        self.assertEqual(decode(good + b"x")[1], 12)
-        for number in range(1, 12):
-            for at, word in ((16 * number - 16, 175), (16 * number - 8, MAX)):
-                self.assertEqual(decode(good[:at] + pack([word]) + good[at + 8:])[1], number)
-        self.assertEqual(decode(encode([b"1234567"] + [b""] * 10))[1], 1)
-        self.assertEqual(decode(encode([b"", b"\1"] + [b""] * 7 + [b"\1"] + [b""]))[1], None)
+        for name, edition in (("case-1", FIRST), ("new-scale", SECOND)):
+            good = sample(name, ".book")
+            self.assertEqual(edition_of(good), edition)
+            self.assertEqual(decode(good[:175])[1], 0)
+            self.assertEqual(decode(good[:edition.contents - 1])[1], 0)
+            self.assertEqual(decode(good + b"x")[1], edition.left)
+            for number in range(1, len(edition.sections) + 1):
+                for at, word in ((16 * number - 16, 175), (16 * number - 8, MAX)):
+                    self.assertEqual(decode(good[:at] + pack([word]) + good[at + 8:])[1], number)
+            bodies = [b""] * len(edition.sections)
+            self.assertEqual(decode(encode([b"1234567"] + bodies[1:]))[1], 1)
+            bodies[1] = bodies[9] = b"\1"
+            self.assertEqual(decode(encode(bodies)), (bodies, None))
+
+    def test_the_first_start_tells_the_edition(self):
+        """With the other edition's, section 2 is not where it is then due."""
+        for name, start, place in (("case-1", 192, 2), ("new-scale", 176, 2), ("case-1", 184, 1),
+                                   ("new-scale", 208, 1), ("empty", 192, 0)):
+            self.assertEqual(decode(pack([start]) + sample(name, ".book")[8:])[1], place)
+        self.assertEqual([edition.contents for edition in EDITIONS], [176, 192])
+        self.assertEqual([edition.left for edition in EDITIONS], [12, 14])
 
     def test_all_places_are_explained(self):
-        for data in (b"", sample("case-1", ".book"), sample("case-1", ".book") + b"x"):
-            for place in range(15):
+        for data in (b"", sample("case-1", ".book"), sample("case-1", ".book") + b"x",
+                     *(sample(name, ".book") for name in ["new-scale"] + shapeless())):
+            for place in range(16):
                 self.assertTrue(explain(data, (20, place, 0)))
+
+    def test_explained_by_edition(self):
+        """Behind the edition stands what the place says; to a first edition 14 says nothing."""
+        for name, meant in (("case-1", range(13)), ("new-scale", [*range(13), 14])):
+            data = sample(name, ".book")
+            edition = edition_of(data)
+            lines = {place: explain(data, (20, place, 0)) for place in range(16) if place != 13}
+            self.assertEqual([place for place in lines if len(lines[place]) > 2], list(meant))
+            for shown in lines.values():
+                self.assertEqual(
+                    shown[1], f"section 1 starts at {edition.contents}, as in the {edition.name} "
+                    f"edition, which has {len(edition.sections)} sections")
 
 
 # Two functions with one number, in samples/modules.txt.
@@ -271,6 +356,37 @@ EXPLAINED = [
                                "8 bits: other widths, another function, no root is due"]),
     ("widths-arguments-first", ["due there: BoolOr(Not(Eq(0, 2)), Eq(3, 5))",
                                 "both are of function 3 of 1 argument (8 bits) giving 8 bits"]),
+    ("new-scale", ["\nsecond edition: 2 arrays listed\n", "5 reads", "4 congruence roots"]),
+    ("reply-second", ["\nsecond edition: 1 array listed\n"]),
+    ("empty-second", ["\nsecond edition: 0 arrays listed\n"]),
+    ("new-scale-unsorted", ["28 SortTable: an entry of the sort table is cut, does not rise",
+                            "\nsort entry 1: array 0 index width 16 cell width 16\n"
+                            "array 0 is not above array 1, which stands before it"]),
+    ("sorts-twice", ["\narray 7 is not above array 7, which stands before it"]),
+    ("sorts-cut", ["\nsort entry 1: words 8 16\nan entry is three words"]),
+    ("sorts-zero", ["\nsort entry 0: array 7 index width 0 cell width 16\n"
+                    "the index width is 0"]),
+    ("new-scale-unlisted", ["source row 8: Select array 1 index 6 pairs 0+0 (ill-formed)\n",
+                            "\narray 1 is not listed; those that are: 0\n"]),
+    ("sorts-empty", ["\narray 7 is not listed; none is\n"]),
+    ("sorts-ceiling", ["\narray 7: indices of 16 bits, cells of 4097 bits\n",
+                       "it would have 4,097 bits; no row may have more than 4,096"]),
+    ("new-scale-cell", ["read entry 2: variable 8 array 0 index 2\n"
+                        "array 0: indices of 16 bits, cells of 16 bits\n"
+                        "the variable must be a Var of 16 bits; target row 8: Var 8 (8 bits)"]),
+    ("new-scale-index", ["read entry 2: variable 8 array 1 index 4\n"
+                         "array 1: indices of 8 bits, cells of 8 bits\n"
+                         "the index must be a row of 8 bits; target row 4: Var 16 (16 bits)"]),
+    ("new-scale-unlisted-read", ["\narray 2 is not listed; those that are: 0, 1"]),
+    ("sorts-bit", ["target bits, position 1: 2"]),
+    ("new-scale-left-over", ["the second edition, which has 12 sections\n"
+                             "the sections end at byte 2744, the book has 2752"]),
+    ("new-scale-short", ["the second edition, which has 12 sections\n"
+                         "the book has 191 bytes, its contents alone take 192"]),
+    ("new-scale-start", ["section 1 starts at 184; it must start at 176 (first edition) or 192 "
+                         "(second edition)"]),
+    ("new-scale-half-word", ["section 12, sorts: start 2696, length 44\n"
+                             "it must start at 2696, be whole words"]),
 ]
 
 
@@ -288,6 +404,10 @@ STRICT_EXPLAINED = [
     ("one-bit-root", ["either both source and target are satisfiable, or neither is\n"
                       "every root, of source and target, is a row of one bit\n"]),
     ("case-7", ["left over", "target root 1"]),
+    ("new-scale", ["or neither is\nevery root, of source and target, is a row of one bit\n"
+                   "second edition: 2 arrays listed\n"]),
+    ("new-scale-word", ["source root 0: source row 15: And 4 2 (16 bits)\n",
+                        "in one bit that is Eq of the row and a constant 1 of 16 bits"]),
 ]
 
 
@@ -331,6 +451,25 @@ class Explanations(unittest.TestCase):
             self.assertIn(line, explain(data, (19, place, detail)))
         self.assertEqual(explain(data, (19, 0, 0)), ["19 is no answer to a book"])
 
+    def test_widths_of_a_first_edition(self):
+        """32 and 8 for every array; only a second edition has a sort table to refuse."""
+        data = parse("source\n Var 16\n Select array 7 index 0 pairs 0+0\n"
+                     "reads\n variable 0 array MAX index 0\ntarget\n Var 16\n")
+        plain = ": indices of 32 bits, cells of 8 bits, as all in a first edition"
+        self.assertIn("array 7" + plain, explain(data, (1, 1, 0)))
+        self.assertEqual(explain(data, (5, 0, 0))[2:], [
+            "array MAX" + plain,
+            "the variable must be a Var of 8 bits; target row 0: Var 16 (16 bits)",
+            "the index must be a row of 32 bits; target row 0: Var 16 (16 bits)"])
+        self.assertEqual(explain(data, (28, 0, 0)),
+                         ["28 is no answer to a book of the first edition"])
+
+    def test_sort_entry_that_is_not_there(self):
+        data = sample("new-scale", ".book")
+        self.assertEqual(explain(data, (28, 2, 0))[1:], ["sort entry 2: there is none"])
+        self.assertEqual(explain(data, (28, 1, 0))[1:],
+                         ["sort entry 1: array 1 index width 8 cell width 8"])
+
     def test_only_the_strict_check_speaks_of_bits(self):
         for name in ("reply", "wide-root"):
             self.assertNotIn("one bit", "\n".join(explain(sample(name, ".book"), (0, 0, 0))))
@@ -348,6 +487,40 @@ class Explanations(unittest.TestCase):
                 place = random_.choice([0, 1, 2, 3, 5, 40, MAX])
                 with self.subTest(seed=seed, number=number, place=place):
                     self.assertTrue(explain(data, (number, place, random_.choice([0, 1, 2, MAX]))))
+
+
+class Arrays(unittest.TestCase):
+    """An array's widths: 32 and 8 in a first edition, by the sort table in a second."""
+
+    def test_editions(self):
+        self.assertEqual([Sorts().of(array) for array in (0, 7, MAX)], [Sort(32, 8)] * 3)
+        self.assertEqual(Sorts([]).of(7), None)
+        sorts = Sorts([(0, 16, 12), (7, 8, 4096), (9, 1)])
+        self.assertEqual([sorts.of(array) for array in (0, 7, 8, 9)],
+                         [Sort(16, 12), Sort(8, 4096), None, None])
+
+    def test_samples(self):
+        for name, second in (("reply", False), ("empty", False), ("reply-second", True),
+                             ("empty-second", True)):
+            self.assertEqual(Book(decode(sample(name, ".book"))[0]).sorts.second, second)
+
+    def test_widths_of_selects(self):
+        """Index, pairs and width, each by the array's sort; a cell of 4,097 bits is too wide."""
+        widths = [16, 12, 32, 8, 4096]
+        rows = [word for width in widths for word in (0, width, 0, 0, 0)]
+        side = (0, 1, 2, 3, 0, 3, 2, 1)
+        sorts = Sorts([(0, 16, 12), (1, 32, 8), (2, 16, 4096), (3, 16, 4097), (4, 16, 0),
+                       (5, 0, 8)])
+        for array, index, start, count, first, second in (
+                (0, 0, 0, 0, 0, 12), (0, 0, 0, 1, 0, 12), (0, 0, 4, 1, 0, 0), (0, 0, 0, 2, 0, 0),
+                (0, 2, 0, 0, 8, 0), (1, 2, 2, 1, 8, 8), (1, 2, 6, 1, 0, 0), (1, 0, 0, 0, 0, 0),
+                (2, 0, 0, 0, 0, 4096), (3, 0, 0, 0, 0, 0), (4, 0, 0, 0, 0, 0),
+                (5, 9, 0, 0, 0, 0), (6, 2, 2, 1, 8, 0), (1, 2, 7, 1, 0, 0)):
+            words = rows + [37, array, index, start, count]
+            for known, width in ((Sorts(), first), (sorts, second)):
+                graph = Graph("source", words, SOURCE_WORDS, b"", side, known)
+                with self.subTest(array=array, index=index, start=start, second=known is sorts):
+                    self.assertEqual(graph.widths, widths + [width])
 
 
 class Functions(unittest.TestCase):
@@ -461,6 +634,18 @@ class Pictures(unittest.TestCase):
         self.assertIn("function 2 of [11 12]", picture)
         self.assertNotIn("giving", picture)
 
+    def test_widths_of_arrays(self):
+        """Below the picture of a second edition, the first few."""
+        self.assertNotIn("indices of", self.picture("reply"))
+        picture = self.picture("new-scale")
+        for text in ("array 0: indices of 16 bits, cells of 16 bits<", "array 1 at 6",
+                     "array 1: indices of 8 bits, cells of 8 bits<"):
+            self.assertIn(text, picture)
+        picture = draw([b""] * 11 + [pack([k // 3 + 1 for k in range(27)])])
+        self.assertEqual(picture.count("indices of"), 6)
+        self.assertIn("array 6: indices of 6 bits, cells of 6 bits<", picture)
+        self.assertIn(".. and 3 more<", picture)
+
     def test_boxes_are_apart_and_inside(self):
         for path in SAMPLES:
             picture = self.picture(stem(path))
@@ -561,6 +746,20 @@ class CommandLine(unittest.TestCase):
         message = self.run_book("show", "-", status=1)[1]
         self.assertIn("0 bytes", message)
 
+    def test_bad_shape_of_a_second_edition(self):
+        """Shown as far as it goes: behind the last section all is there, widths too."""
+        for name, part, shown in (("new-scale-left-over", "has 2752", "# 16 bits; 0 -> 13"),
+                                  ("new-scale-half-word", "section 12", "4: Select array 0"),
+                                  ("new-scale-start", "starts at 184", "")):
+            path = os.path.join(TOP, "samples", name + ".book")
+            for words in (["show"], ["draw"]):
+                printed, message = self.run_book(*words, path, status=1)
+                self.assertEqual(printed, b"")
+                self.assertIn(part, message)
+                self.assertEqual("\nsorts " in message, (name, words) == (
+                    "new-scale-left-over", ["show"]))
+            self.assertIn(shown, self.run_book("show", path, status=1)[1])
+
     def test_long_book(self):
         text = b"source bits\n" + b"0" * 70000
         data, message = self.run_book("make", "-", status=0, given=text)
@@ -622,10 +821,31 @@ class Samples(unittest.TestCase):
             with self.subTest(sample=stem(path)):
                 self.assertEqual(parse(contents(path).decode()), sample(stem(path), ".book"))
 
+    def test_books_of_bad_shape(self):
+        """They have no listing: each is new-scale with one change, and 20 at the place of that."""
+        good = sample("new-scale", ".book")
+        sorts = 16 * len(SECOND.sections) - 8  # where the length of section 12 stands
+        length = len(decode(good)[0][-1])
+        changed = {"new-scale-left-over": good + bytes(8),
+                   "new-scale-short": good[:191],
+                   "new-scale-start": pack([184]) + good[8:],
+                   "new-scale-half-word":
+                       good[:sorts] + pack([length - 4]) + good[sorts + 8:-4]}
+        self.assertEqual(sorted(changed), shapeless())
+        for name, data in changed.items():
+            with self.subTest(sample=name):
+                self.assertEqual(sample(name, ".book"), data)
+                self.assertEqual(answer_of(sample(name, ".line")), (20, decode(data)[1], 0))
+                self.assertFalse(differs(name))
+
+    def test_reply_of_both_editions(self):
+        first, second = (decode(sample(name, ".book"))[0] for name in ("reply", "reply-second"))
+        self.assertEqual(second, first + [pack([0, *Sorts.PLAIN])])
+
     def test_table_of_samples(self):
         """A sample whose strict line is another stands in the table that has both."""
         table = contents(os.path.join(TOP, "samples", "README.md")).decode()
-        for path in SAMPLES:
+        for path in BOOKS:
             lines = [sample(stem(path), ".line")] + [strict_line(stem(path))] * differs(stem(path))
             cells = " ".join(f"`{line.decode().strip()}` |" for line in lines)
             with self.subTest(sample=stem(path)):
@@ -633,14 +853,14 @@ class Samples(unittest.TestCase):
                 self.assertEqual(found, [cells])
 
     def test_strict_lines_are_by_the_rule(self):
-        """19 at the first bad root, the source's first, but behind 20, 15 to 18, 1 and 2."""
+        """19 at the first bad root, the source's first, but behind 20, 15 to 18, 28, 1 and 2."""
         for path in SAMPLES:
             name = stem(path)
             expected, book = sample(name, ".line"), Book(decode(sample(name, ".book"))[0])
             graphs = (1, book.source, book.roots), (2, book.target, book.target_roots)
             bad = [f"refused 19 {place} {detail}\n".encode() for detail, graph, roots in graphs
                    for place, root in enumerate(roots) if graph.width_at(root) != 1]
-            if bad and answer_of(expected)[0] not in (1, 2, 15, 16, 17, 18, 20):
+            if bad and answer_of(expected)[0] not in (1, 2, 15, 16, 17, 18, 20, 28):
                 expected = bad[0]
             with self.subTest(sample=name):
                 self.assertEqual(strict_line(name), expected)
@@ -648,14 +868,14 @@ class Samples(unittest.TestCase):
 
     @built
     def test_lines_are_what_verdict_prints(self):
-        for path in SAMPLES:
+        for path in BOOKS:
             with self.subTest(sample=stem(path)):
                 line, _ = command.ask(VERDICT, sample(stem(path), ".book"))
                 self.assertEqual(line.encode(), sample(stem(path), ".line"))
 
     @strict_built
     def test_strict_lines_are_what_strict_verdict_prints(self):
-        for path in SAMPLES:
+        for path in BOOKS:
             with self.subTest(sample=stem(path)):
                 line, _ = command.ask(STRICT_VERDICT, sample(stem(path), ".book"))
                 self.assertEqual(line.encode(), strict_line(stem(path)))
