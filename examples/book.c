@@ -1,4 +1,4 @@
-/* The verdict on a book of any size, from a file.
+/* The verdict on a book of any size and either edition, from a file.
  *
  *   rt staticlib gilfrunt > staticlib.log 2>&1
  *   gcc -std=c99 -Iinclude examples/book.c target/staticlib/libgilfrunt.a -o target/book && target/book samples/reply.book
@@ -57,11 +57,12 @@ static size_t section_length(const uint8_t *book, size_t length, uint64_t number
     return (size_t)gilfrunt_section(book, length, number).length;
 }
 
-/* How many words a book's sections have, all but those of the bits. */
+/* How many words a book's sections have, all but those of the bits. A first edition has
+ * no section of sorts, so that counts 0 there. */
 static size_t word_count(const uint8_t *book, size_t length)
 {
     size_t bytes = 0;
-    for (uint64_t number = GILFRUNT_SECTION_SOURCE; number <= GILFRUNT_SECTION_TARGET_ROOTS; number++)
+    for (uint64_t number = GILFRUNT_SECTION_SOURCE; number <= GILFRUNT_SECTION_SORTS; number++)
         if (number != GILFRUNT_SECTION_SOURCE_BITS && number != GILFRUNT_SECTION_TARGET_BITS)
             bytes += section_length(book, length, number);
     return bytes / 8;

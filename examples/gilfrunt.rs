@@ -79,6 +79,12 @@ extern "C" {
         side: *const u64, side_len: usize, widths: *mut u64, widths_len: usize,
     ) -> Answer;
 
+    fn gilfrunt_source_widths_with_sorts(
+        source: *const u64, source_len: usize, bits: *const u8, bits_len: usize,
+        side: *const u64, side_len: usize, sorts: *const u64, sorts_len: usize,
+        widths: *mut u64, widths_len: usize,
+    ) -> Answer;
+
     fn gilfrunt_target_widths(
         target: *const u64, target_len: usize, bits: *const u8, bits_len: usize,
         widths: *mut u64, widths_len: usize,
@@ -118,6 +124,32 @@ extern "C" {
         classes: *mut u64, classes_len: usize, entries: *mut u64, entries_len: usize,
     ) -> Answer;
 
+    fn gilfrunt_check_with_sorts(
+        source: *const u64, source_len: usize, source_bits: *const u8, source_bits_len: usize,
+        side: *const u64, side_len: usize, source_roots: *const u64, source_roots_len: usize,
+        map: *const u64, map_len: usize, reads: *const u64, reads_len: usize,
+        calls: *const u64, calls_len: usize, arguments: *const u64, arguments_len: usize,
+        target: *const u64, target_len: usize, target_bits: *const u8, target_bits_len: usize,
+        target_roots: *const u64, target_roots_len: usize,
+        sorts: *const u64, sorts_len: usize,
+        source_widths: *mut u64, source_widths_len: usize,
+        target_widths: *mut u64, target_widths_len: usize,
+        classes: *mut u64, classes_len: usize, entries: *mut u64, entries_len: usize,
+    ) -> Answer;
+
+    fn gilfrunt_strict_check_with_sorts(
+        source: *const u64, source_len: usize, source_bits: *const u8, source_bits_len: usize,
+        side: *const u64, side_len: usize, source_roots: *const u64, source_roots_len: usize,
+        map: *const u64, map_len: usize, reads: *const u64, reads_len: usize,
+        calls: *const u64, calls_len: usize, arguments: *const u64, arguments_len: usize,
+        target: *const u64, target_len: usize, target_bits: *const u8, target_bits_len: usize,
+        target_roots: *const u64, target_roots_len: usize,
+        sorts: *const u64, sorts_len: usize,
+        source_widths: *mut u64, source_widths_len: usize,
+        target_widths: *mut u64, target_widths_len: usize,
+        classes: *mut u64, classes_len: usize, entries: *mut u64, entries_len: usize,
+    ) -> Answer;
+
     fn gilfrunt_section_answer(book: *const u8, book_len: usize, number: u64) -> Answer;
 
     fn gilfrunt_section(book: *const u8, book_len: usize, number: u64) -> Stretch;
@@ -148,6 +180,24 @@ pub fn source_widths(source: &[u64], bits: &[u8], side: &[u64], widths: &mut [u6
         gilfrunt_source_widths(
             source.as_ptr(), source.len(), bits.as_ptr(), bits.len(),
             side.as_ptr(), side.len(), widths.as_mut_ptr(), widths.len(),
+        )
+    }
+}
+
+/// The widths of a source's rows, with arrays of the widths that `sorts` lists: array,
+/// index width and cell width in threes, strictly rising by array.
+pub fn source_widths_with_sorts(
+    source: &[u64],
+    bits: &[u8],
+    side: &[u64],
+    sorts: &[u64],
+    widths: &mut [u64],
+) -> Answer {
+    unsafe {
+        gilfrunt_source_widths_with_sorts(
+            source.as_ptr(), source.len(), bits.as_ptr(), bits.len(),
+            side.as_ptr(), side.len(), sorts.as_ptr(), sorts.len(),
+            widths.as_mut_ptr(), widths.len(),
         )
     }
 }
@@ -219,7 +269,44 @@ pub fn strict_check(of: &Lowering, lent: Lent) -> Answer {
     }
 }
 
-/// A section of a book, 1 to 11, or why there is none.
+/// Whether the target is the lowering of the source, with arrays of the widths that `sorts`
+/// lists. An empty list lists no array.
+pub fn check_with_sorts(of: &Lowering, sorts: &[u64], lent: Lent) -> Answer {
+    unsafe {
+        gilfrunt_check_with_sorts(
+            of.source.as_ptr(), of.source.len(), of.source_bits.as_ptr(), of.source_bits.len(),
+            of.side.as_ptr(), of.side.len(), of.source_roots.as_ptr(), of.source_roots.len(),
+            of.map.as_ptr(), of.map.len(), of.reads.as_ptr(), of.reads.len(),
+            of.calls.as_ptr(), of.calls.len(), of.arguments.as_ptr(), of.arguments.len(),
+            of.target.as_ptr(), of.target.len(), of.target_bits.as_ptr(), of.target_bits.len(),
+            of.target_roots.as_ptr(), of.target_roots.len(), sorts.as_ptr(), sorts.len(),
+            lent.source_widths.as_mut_ptr(), lent.source_widths.len(),
+            lent.target_widths.as_mut_ptr(), lent.target_widths.len(),
+            lent.classes.as_mut_ptr(), lent.classes.len(),
+            lent.entries.as_mut_ptr(), lent.entries.len(),
+        )
+    }
+}
+
+/// The same, and every root is of one bit.
+pub fn strict_check_with_sorts(of: &Lowering, sorts: &[u64], lent: Lent) -> Answer {
+    unsafe {
+        gilfrunt_strict_check_with_sorts(
+            of.source.as_ptr(), of.source.len(), of.source_bits.as_ptr(), of.source_bits.len(),
+            of.side.as_ptr(), of.side.len(), of.source_roots.as_ptr(), of.source_roots.len(),
+            of.map.as_ptr(), of.map.len(), of.reads.as_ptr(), of.reads.len(),
+            of.calls.as_ptr(), of.calls.len(), of.arguments.as_ptr(), of.arguments.len(),
+            of.target.as_ptr(), of.target.len(), of.target_bits.as_ptr(), of.target_bits.len(),
+            of.target_roots.as_ptr(), of.target_roots.len(), sorts.as_ptr(), sorts.len(),
+            lent.source_widths.as_mut_ptr(), lent.source_widths.len(),
+            lent.target_widths.as_mut_ptr(), lent.target_widths.len(),
+            lent.classes.as_mut_ptr(), lent.classes.len(),
+            lent.entries.as_mut_ptr(), lent.entries.len(),
+        )
+    }
+}
+
+/// A section of a book, 1 to 11, in the second edition to 12, or why there is none.
 pub fn section(book: &[u8], number: u64) -> Result<&[u8], Answer> {
     let answer = unsafe { gilfrunt_section_answer(book.as_ptr(), book.len(), number) };
     if !answer.accepted() {
@@ -357,15 +444,77 @@ mod tests {
         assert_eq!(both(1, &[0], &[0, 1]), [refused(12, 0, 0), refused(19, 1, 2)]);
     }
 
+    /// Marked case 1, an address and a cell of 16 bits.
+    const SOURCE_16: [u64; 15] = [0, 16, 0, 0, 0, 37, 7, 0, 0, 0, 19, 1, 1, 0, 0];
+    const TARGET_16: [u64; 12] = [0, 16, 0, 0, 0, 16, 0, 0, 19, 1, 1, 0];
+
+    #[test]
+    fn widths_with_sorts() {
+        let widths = |source: &[u64], sorts: &[u64]| {
+            let mut found = [9; 4];
+            (source_widths_with_sorts(source, &[], &[], sorts, &mut found), found)
+        };
+        let refused = |number, place| (answer(number, place, 0), [0; 4]);
+        assert_eq!(widths(&SOURCE_16, &[7, 16, 16]), (answer(0, 0, 0), [16, 16, 1, 0]));
+        assert_eq!(widths(&SOURCE, &[2, 1, 1, 7, 32, 8]), (answer(0, 0, 0), [32, 8, 1, 0]));
+        assert_eq!(widths(&SOURCE_16, &[7, 16, CEILING]), (answer(0, 0, 0), [16, CEILING, 1, 0]));
+        assert_eq!(widths(&SOURCE_16, &[7, 16, CEILING + 1]), refused(1, 1));
+        assert_eq!(widths(&SOURCE, &[]), refused(1, 1));
+        assert_eq!(widths(&SOURCE_16, &[6, 16, 16]), refused(1, 1));
+        assert_eq!(widths(&SOURCE_16, &[7, 16, 16, 7, 16, 16]), refused(28, 1));
+        assert_eq!(widths(&SOURCE_16, &[7, 16, 16, 8]), refused(28, 1));
+        assert_eq!(widths(&SOURCE_16, &[7, 16, 0]), refused(28, 0));
+    }
+
+    #[test]
+    fn checked_with_sorts() {
+        let of = Lowering {
+            source: &SOURCE_16,
+            target: &TARGET_16,
+            map: &[0, 1, 2],
+            reads: &[1, 7, 0],
+            source_roots: &[2],
+            target_roots: &[2],
+            ..Lowering::default()
+        };
+        let both = |of: &Lowering, sorts: &[u64]| {
+            [check_with_sorts, strict_check_with_sorts].map(|check| {
+                let mut lists = [[9; 3]; 4];
+                let [source_widths, target_widths, classes, entries] = &mut lists;
+                (check(of, sorts, Lent { source_widths, target_widths, classes, entries }), lists)
+            })
+        };
+        let refused = |number, place, detail| (answer(number, place, detail), [[0; 3]; 4]);
+        let left = [[16, 16, 1], [16, 16, 1], [1, 4, 0], [0, 0, 0]];
+        assert_eq!(both(&of, &[7, 16, 16]), [(answer(0, 0, 0), left); 2]);
+        assert_eq!(both(&of, &[]), [refused(1, 1, 0); 2]);
+        assert_eq!(both(&of, &[8, 1, 1, 7, 16, 16]), [refused(28, 1, 0); 2]);
+        let other = Lowering { reads: &[1, 8, 0], ..of };
+        assert_eq!(both(&other, &[7, 16, 16]), [refused(5, 0, 0); 2]);
+        assert_eq!(both(&other, &[7, 16, 16, 8, 16, 8]), [refused(5, 0, 0); 2]);
+        let wide = Lowering { source_roots: &[1], target_roots: &[1], ..of };
+        assert_eq!(both(&wide, &[7, 16, 16]), [(answer(0, 0, 0), left), refused(19, 0, 1)]);
+    }
+
     #[test]
     fn books() {
-        let contents: Vec<u8> = (0..22).flat_map(|k| [176 * (1 - k % 2), 0, 0, 0, 0, 0, 0, 0]).collect();
-        assert_eq!(verdict(&contents).to_string(), "accepted");
-        assert_eq!(verdict(&[]).to_string(), "refused 20 0 0");
-        assert_eq!(strict_verdict(&contents).to_string(), "accepted");
-        assert_eq!(strict_verdict(&[]).to_string(), "refused 20 0 0");
-        assert_eq!(section(&contents, 1), Ok(&[][..]));
-        assert_eq!(section(&contents, 12), Err(answer(24, 0, 0)));
-        assert_eq!(section(&contents[1..], 1), Err(answer(20, 0, 0)));
+        for (sections, left_over) in [(11, 12), (12, 14)] {
+            let contents: Vec<u8> = (0..2 * sections)
+                .flat_map(|k| [16 * sections * (1 - k % 2), 0, 0, 0, 0, 0, 0, 0])
+                .collect();
+            let (short, long) = (&contents[..contents.len() - 1], [&contents[..], &[0]].concat());
+            for verdict in [verdict, strict_verdict] {
+                assert_eq!(verdict(&contents).to_string(), "accepted");
+                assert_eq!(verdict(short).to_string(), "refused 20 0 0");
+                assert_eq!(verdict(&long), answer(20, left_over, 0));
+                assert_eq!(verdict(&[]).to_string(), "refused 20 0 0");
+            }
+            let none = Err(answer(24, 0, 0));
+            assert_eq!(section(&contents, 1), Ok(&[][..]));
+            assert_eq!(section(&contents, 12), if sections == 12 { Ok(&[][..]) } else { none });
+            assert_eq!(section(&long, 12), Err(answer(20, left_over, 0)));
+            assert_eq!(section(&long, 13), none);
+            assert_eq!(section(short, 1), Err(answer(20, 0, 0)));
+        }
     }
 }

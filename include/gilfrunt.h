@@ -1,6 +1,11 @@
 /* The functions of libgilfrunt.a, C99 or C++. docs/REFERENCE.md says what rows,
  * tags, tables, widths and books are; docs/ANSWERS.md has the answers in one table.
  *
+ * Every array has indices of 32 bits and cells of 8 bits, unless there is a sort table:
+ * then it has the widths that are listed there, and one that is not listed has none. The
+ * functions with_sorts take such a table, and a book of the second edition holds one;
+ * the functions on books find the edition themselves.
+ *
  * A word is an unsigned 64-bit number. A list is a pointer and the number of its
  * elements; pointers are aligned and not null, also for an empty list, and no
  * other list overlaps one that is written. Nothing else is asked of the caller: each
@@ -19,8 +24,9 @@
  *                           words                            bytes of all sections
  *                                                            but 2 and 10, / 8
  *
- * For any book, book_len / 32 words for each of gilfrunt_judge's first four lists and
- * book_len / 8 for the fifth are enough.
+ * A function with_sorts needs as many as the one without. For any book, book_len / 32
+ * words for each of gilfrunt_judge's first four lists and book_len / 8 for the fifth are
+ * enough.
  */
 #ifndef GILFRUNT_H
 #define GILFRUNT_H
@@ -40,12 +46,18 @@ extern "C" {
  */
 #define GILFRUNT_CEILING 4096
 
-/* Words of a row, words of an entry, bytes of a book's table of contents. */
+/* Words of a row, words of an entry. */
 #define GILFRUNT_SOURCE_ROW 5
 #define GILFRUNT_TARGET_ROW 4
 #define GILFRUNT_READ_ENTRY 3
 #define GILFRUNT_CALL_ENTRY 4
+#define GILFRUNT_SORT_ENTRY 3
+
+/* Bytes of a book's table of contents, where its first section starts: of the first
+ * edition, of the second.
+ */
 #define GILFRUNT_CONTENTS 176
+#define GILFRUNT_SECOND_CONTENTS 192
 
 /* A row's first word. Select and Call stand in sources only. */
 enum gilfrunt_tag {
@@ -116,10 +128,11 @@ enum gilfrunt_number {
     GILFRUNT_TOO_WIDE = 21,
     GILFRUNT_VALUE_COUNT = 22,
     GILFRUNT_VALUE_RANGE = 23,
-    GILFRUNT_NO_SECTION = 24
+    GILFRUNT_NO_SECTION = 24,
+    GILFRUNT_SORT_TABLE = 28
 };
 
-/* The sections of a book. */
+/* The sections of a book; the sorts in the second edition only. */
 enum gilfrunt_section_number {
     GILFRUNT_SECTION_SOURCE = 1,
     GILFRUNT_SECTION_SOURCE_BITS = 2,
@@ -131,7 +144,8 @@ enum gilfrunt_section_number {
     GILFRUNT_SECTION_CALL_ARGUMENTS = 8,
     GILFRUNT_SECTION_TARGET = 9,
     GILFRUNT_SECTION_TARGET_BITS = 10,
-    GILFRUNT_SECTION_TARGET_ROOTS = 11
+    GILFRUNT_SECTION_TARGET_ROOTS = 11,
+    GILFRUNT_SECTION_SORTS = 12
 };
 
 /* Number 0 is acceptance. A place or detail not named below is 0. */
@@ -161,6 +175,31 @@ gilfrunt_answer gilfrunt_source_widths(
     const uint64_t *source, size_t source_len,
     const uint8_t *bits, size_t bits_len,
     const uint64_t *side, size_t side_len,
+    uint64_t *widths, size_t widths_len);
+
+/* As gilfrunt_source_widths, with a sort table: sorts has entries of three words, array,
+ * index width and cell width, strictly rising by array. A Select's index and the indices
+ * of its pairs have its array's index width, their values and the Select itself its cell
+ * width. A Select whose array is not listed is not well formed; an empty list means that
+ * no array is listed. Answers the first of these that applies:
+ *
+ *   15, 18, 16, 17         as by gilfrunt_source_widths
+ *   28  place entry        first entry of sorts that is cut (the last, of fewer than 3
+ *                          words), whose array is not above that of the entry before,
+ *                          or that has a width of 0
+ *    1  place row          first row that is not well formed, also a Select of an
+ *                          array that is not listed, or whose cell width is above
+ *                          GILFRUNT_CEILING
+ *    0                     accepted
+ *
+ * widths is left as by gilfrunt_source_widths, by 28 with zeros. The other lists are only
+ * read.
+ */
+gilfrunt_answer gilfrunt_source_widths_with_sorts(
+    const uint64_t *source, size_t source_len,
+    const uint8_t *bits, size_t bits_len,
+    const uint64_t *side, size_t side_len,
+    const uint64_t *sorts, size_t sorts_len,
     uint64_t *widths, size_t widths_len);
 
 /* The widths of a target graph's rows. Answers the first of these that applies:
@@ -315,15 +354,80 @@ gilfrunt_answer gilfrunt_strict_check(
     uint64_t *classes, size_t classes_len,
     uint64_t *entries, size_t entries_len);
 
-/* Whether a book has a section of this number, 1 to 11. Answers the first of
- * these that applies:
+/* As gilfrunt_check, with a sort table, as in gilfrunt_source_widths_with_sorts: a Select
+ * and a read entry have the widths of their array. An empty list means that no array is
+ * listed, not that each has 32 and 8 as in gilfrunt_check. Answers the first of these
+ * that applies:
  *
- *   24                     number is outside 1 to 11
- *   20  place 0            book_len is under 176
- *       place 1 to 11      first section that does not start where the last ended
- *                          (the first at 176), runs past the end, or is no whole
- *                          words (2 and 10, the bits, need not be)
- *       place 12           bytes left over after the last section
+ *   15, 18, 16, 17         as by gilfrunt_check
+ *   28  place entry        first bad entry of sorts, as by
+ *                          gilfrunt_source_widths_with_sorts
+ *    1  place row          source row that is not well formed, as there
+ *    2, 3                  as by gilfrunt_check
+ *    5  place entry        bad read entry, also one whose array is not listed, whose
+ *                          variable is not of the array's cell width, or whose index
+ *                          row is not of its index width
+ *    6 and the rest        as by gilfrunt_check
+ *    0                     accepted: source and target are satisfiable together, with
+ *                          arrays of the widths that are listed, and leave the same
+ *                          values of mapped variables open
+ *
+ * The lists are left as by gilfrunt_check; 28 sets all four to 0.
+ */
+gilfrunt_answer gilfrunt_check_with_sorts(
+    const uint64_t *source, size_t source_len,
+    const uint8_t *source_bits, size_t source_bits_len,
+    const uint64_t *side, size_t side_len,
+    const uint64_t *source_roots, size_t source_roots_len,
+    const uint64_t *map, size_t map_len,
+    const uint64_t *reads, size_t reads_len,
+    const uint64_t *calls, size_t calls_len,
+    const uint64_t *args, size_t args_len,
+    const uint64_t *target, size_t target_len,
+    const uint8_t *target_bits, size_t target_bits_len,
+    const uint64_t *target_roots, size_t target_roots_len,
+    const uint64_t *sorts, size_t sorts_len,
+    uint64_t *source_widths, size_t source_widths_len,
+    uint64_t *target_widths, size_t target_widths_len,
+    uint64_t *classes, size_t classes_len,
+    uint64_t *entries, size_t entries_len);
+
+/* As gilfrunt_strict_check, with a sort table: 15, 18, 16, 17, 28, 1 and 2 as by
+ * gilfrunt_check_with_sorts, then 19 as by gilfrunt_strict_check, then 3, 5, 6 and the
+ * rest as by gilfrunt_check_with_sorts.
+ */
+gilfrunt_answer gilfrunt_strict_check_with_sorts(
+    const uint64_t *source, size_t source_len,
+    const uint8_t *source_bits, size_t source_bits_len,
+    const uint64_t *side, size_t side_len,
+    const uint64_t *source_roots, size_t source_roots_len,
+    const uint64_t *map, size_t map_len,
+    const uint64_t *reads, size_t reads_len,
+    const uint64_t *calls, size_t calls_len,
+    const uint64_t *args, size_t args_len,
+    const uint64_t *target, size_t target_len,
+    const uint8_t *target_bits, size_t target_bits_len,
+    const uint64_t *target_roots, size_t target_roots_len,
+    const uint64_t *sorts, size_t sorts_len,
+    uint64_t *source_widths, size_t source_widths_len,
+    uint64_t *target_widths, size_t target_widths_len,
+    uint64_t *classes, size_t classes_len,
+    uint64_t *entries, size_t entries_len);
+
+/* Whether a book has a section of this number, 1 to 11, in the second edition to 12.
+ * A book's first word, where section 1 starts, tells its edition: 176 the first, 192
+ * the second. Answers the first of these that applies:
+ *
+ *   24                     number is outside 1 to 12
+ *   20  place 0            book_len is under 176, or the first word is 192 and it is
+ *                          under 192
+ *       place 1            the first word is neither 176 nor 192
+ *       place 1 to 11,     first section that does not start where the last ended,
+ *       in the second      runs past the end, or is no whole words (2 and 10, the
+ *       edition to 12      bits, need not be)
+ *       place 12, in the   bytes left over after the last section
+ *       second edition 14
+ *   24                     number is 12 and the book is a first edition
  *    0                     accepted
  */
 gilfrunt_answer gilfrunt_section_answer(
@@ -343,9 +447,10 @@ gilfrunt_stretch gilfrunt_section(
     uint64_t number);
 
 /* The verdict on a book: 20 as above, or the answer of gilfrunt_check on the
- * lists that the book holds. The first four lists are gilfrunt_check's; words
- * takes the words of the book's sections, one section after the other (2 and 10
- * have none), and is the fifth place of 18, after gilfrunt_check's own 15 and 18.
+ * lists that the book holds, for a second edition of gilfrunt_check_with_sorts. The
+ * first four lists are gilfrunt_check's; words takes the words of the book's sections,
+ * one section after the other (2 and 10 have none), and is the fifth place of 18,
+ * after gilfrunt_check's own 15 and 18.
  *
  * 0 leaves in the first four what gilfrunt_check leaves, in words the book's
  * words, and zeros after them. 15 and 18 write nothing; every other refusal sets
@@ -360,7 +465,8 @@ gilfrunt_answer gilfrunt_judge(
     uint64_t *words, size_t words_len);
 
 /* The strict verdict on a book: 20, or the answer of gilfrunt_strict_check on the lists
- * that the book holds. All lists are as in gilfrunt_judge.
+ * that the book holds, for a second edition of gilfrunt_strict_check_with_sorts. All
+ * lists are as in gilfrunt_judge.
  */
 gilfrunt_answer gilfrunt_strict_judge(
     const uint8_t *book, size_t book_len,

@@ -14,7 +14,7 @@ import sys
 import tempfile
 import unittest
 
-from listing import encode, pack
+from listing import EDITIONS, SECOND, encode, pack
 
 TOP = os.path.dirname(os.path.dirname(os.path.abspath(__file__)))
 LIBRARY = os.path.join(TOP, "target", "staticlib", "libgilfrunt.a")
@@ -29,7 +29,7 @@ def needs(*programs):
 
 # Example, the word that its command starts with, what the command prints.
 EXAMPLES = [
-    ("check.c", "gcc", "0 0 0\n"),
+    ("check.c", "gcc", "0 0 0\n0 0 0\n"),
     ("book.c", "gcc", "accepted\n"),
     ("check.rs", "rustc", "accepted\n"),
 ]
@@ -71,6 +71,14 @@ class Header(unittest.TestCase):
     @needs("g++")
     def test_cpp(self):
         self.compiled("g++", ".cc", ["c++11", "c++17"])
+
+    @needs("gcc")
+    def test_examples_fit_it(self):
+        """Each compiles without the library."""
+        with tempfile.TemporaryDirectory() as folder:
+            for name in ("check", "book"):
+                run(["gcc", "-std=c99", *WARNINGS, "-Iinclude", "-c", f"examples/{name}.c",
+                     "-o", os.path.join(folder, name + ".o")])
 
 
 @built
@@ -116,16 +124,25 @@ class Examples(unittest.TestCase):
                     self.assertEqual(run(words, int(line != "accepted\n")), line)
 
     def test_long_book(self):
-        """Longer than verdict takes: 10,000 variables, then the same with one map word less."""
-        bodies = [b""] * 11
-        bodies[0], bodies[8] = pack([0, 8, 0, 0, 0] * 10000), pack([0, 8, 0, 0] * 10000)
+        """Longer than verdict takes: 10,000 variables, then the same with one map word less. In a
+        second edition beside 10,000 arrays, at last with one that is listed twice."""
+        for edition in EDITIONS:
+            bodies = [b""] * len(edition.sections)
+            bodies[0], bodies[8] = pack([0, 8, 0, 0, 0] * 10000), pack([0, 8, 0, 0] * 10000)
+            bodies[11:] = [pack([k // 3 + 1 for k in range(30000)]) for _ in bodies[11:]]
+            for rows, line in ((10000, "accepted\n"), (9999, "refused 3 10000 9999\n")):
+                bodies[4] = pack(range(rows))
+                self.assert_judged(bodies, line)
+            if edition is SECOND:
+                bodies[11] += pack([10000, 1, 1])
+                self.assert_judged(bodies, "refused 28 10000 0\n")
+
+    def assert_judged(self, bodies, line):
         program, path = self.book(), os.path.join(self.folder, "long")
-        for rows, line in ((10000, "accepted\n"), (9999, "refused 3 10000 9999\n")):
-            bodies[4] = pack(range(rows))
-            with open(path, "wb") as file:
-                file.write(encode(bodies))
-            for options in ([], ["--strict"]):
-                self.assertEqual(run([program, *options, path], int(rows != 10000)), line)
+        with open(path, "wb") as file:
+            file.write(encode(bodies))
+        for options in ([], ["--strict"]):
+            self.assertEqual(run([program, *options, path], int(line != "accepted\n")), line)
 
     def test_book_without_an_answer(self):
         program = self.book()
