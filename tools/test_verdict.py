@@ -159,10 +159,15 @@ class Program(Release):
                 self.assertEqual(self.judged(*arguments, stdin=contents(book)), (2, b""))
 
     def test_length(self):
-        empty = contents(os.path.join(SAMPLES, "empty.book"))
-        for size, expected in [(0, b"refused 20 0 0\n"), (175, b"refused 20 0 0\n"), (65536, b"refused 20 12 0\n"),
-                               (65537, b"refused 20 13 0\n"), (200000, b"refused 20 13 0\n")]:
-            self.assertEqual(self.verdict(stdin=(empty + bytes(size))[:size]).stdout, expected)
+        """Of a first and of a second edition: cut in the contents, with bytes left over, too long."""
+        for sample, whole, left in [("empty.book", 176, 12), ("empty-second.book", 192, 14)]:
+            empty = contents(os.path.join(SAMPLES, sample))
+            for size, place in [(0, 0), (7, 0), (8, 0), (175, 0), (whole - 1, 0), (whole + 1, left), (65536, left),
+                                (65537, 13), (200000, 13)]:
+                with self.subTest(sample=sample, size=size):
+                    expected = f"refused 20 {place} 0\n".encode()
+                    self.assertEqual(self.verdict(stdin=(empty + bytes(size))[:size]).stdout, expected)
+            self.assertEqual(self.verdict(stdin=empty).stdout, b"accepted\n")
 
 
 @unittest.skipUnless(os.path.exists(STRICT_VERDICT), "target/bin/strict_verdict is not built")
