@@ -433,7 +433,7 @@ class Explanations(unittest.TestCase):
             quoted += re.findall(r"(?m)^    \$ python3 tools/book.py explain( --strict)? samples/"
                                  r"(\S+)\.book\n((?:    .*\n)+)",
                                  contents(os.path.join(TOP, page)).decode())
-        self.assertEqual(len(quoted), 3)
+        self.assertEqual(len(quoted), 4)
         for strict, name, shown in quoted:
             line = strict_line(name) if strict else sample(name, ".line")
             lines = explain(sample(name, ".book"), answer_of(line), bool(strict))

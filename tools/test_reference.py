@@ -9,8 +9,8 @@ import unittest
 
 import believe
 from explain import ANSWERS
-from graph import CEILING, CORE_TAGS, SOURCE_WORDS, TAGS, TARGET_WORDS, Graph
-from listing import BITS, CALL, CONTENTS, READ, SECTIONS
+from graph import CEILING, CORE_TAGS, SORT_WORDS, SOURCE_WORDS, TAGS, TARGET_WORDS, Graph, Sorts
+from listing import BITS, CALL, EDITIONS, FIRST, READ, SECOND, SECTIONS, SORT
 
 TOP = os.path.dirname(os.path.dirname(os.path.abspath(__file__)))
 
@@ -74,14 +74,19 @@ class Tags(unittest.TestCase):
                 self.assertEqual(row[3], tag.shape.needs)
 
     def test_widths(self):
-        """A well-formed row of each tag has the width that its line says."""
-        rows = [[0, 8], [0, 8], [0, 32], [0, 1], [0, 1]]
+        """A well-formed row of each tag has the width that its line says, in both editions."""
+        self.assert_widths(*Sorts.PLAIN, Sorts())
+        self.assert_widths(20, 8, Sorts([(7, 20, 8)]))
+        self.assert_widths(8, 33, Sorts([(1, 2, 3), (7, 8, 33)]))
+
+    def assert_widths(self, index, cell, sorts):
+        rows = [[0, 8], [0, 8], [0, index], [0, 1], [0, 1], [0, cell]]
         words = [word for row in rows for word in row + [0, 0, 0]]
-        graph = Graph("source", words, SOURCE_WORDS, b"\0" * 16, (2, 0))
+        graph = Graph("source", words, SOURCE_WORDS, b"\0" * 16, (2, 5), sorts)
         fields = {"width": 13, "start": 0, "a": 0, "b": 1, "c": 3, "by": 5, "high": 6, "low": 2,
                   "array": 7, "index": 2, "function": 3, "count": 1}
-        expected = {"width": 13, "a's": 8, "1": 1, "8": 8, "high - low + 1": 5,
-                    "both together": 16, "a's and by": 13}
+        expected = {"width": 13, "a's": 8, "1": 1, "the array's cell width": cell,
+                    "high - low + 1": 5, "both together": 16, "a's and by": 13}
         for row, tag in zip(self.rows, TAGS):
             boolean = tag.name in ("Not", "BoolAnd", "BoolOr")
             given = dict(fields, a=3, b=4) if boolean else fields
@@ -96,9 +101,13 @@ class Tags(unittest.TestCase):
         shown = re.search(r"(?m)^pub const CEILING: u64 = (\d+);$", content("examples", "gilfrunt.rs"))
         self.assertEqual([int(found.group(1)) for found in (defined, coded, shown)], [CEILING] * 3)
         asked = {tag.name for tag in TAGS if f"{CEILING:,}" in tag.shape.needs}
-        self.assertEqual(asked, {"Var", "Const", "Concat", "ZeroExt", "SignExt", "Call"})
+        self.assertEqual(asked, {"Var", "Const", "Concat", "ZeroExt", "SignExt", "Select", "Call"})
         words = [0, CEILING, 0, 0, 0, 0, CEILING + 1, 0, 0, 0, 17, 0, 1, 0, 0]
         self.assertEqual(Graph("source", words, SOURCE_WORDS, b"").widths, [CEILING, 0, 0])
+        for cell, width in ((CEILING, CEILING), (CEILING + 1, 0)):
+            graph = Graph("source", [0, 9, 0, 0, 0, 37, 7, 0, 0, 0], SOURCE_WORDS, b"", (),
+                          Sorts([(7, 9, cell)]))
+            self.assertEqual(graph.widths, [9, width])
 
     def test_values_are_named_as_defined(self):
         """The operators in the order of the table of crates/value."""
@@ -126,14 +135,17 @@ class Tags(unittest.TestCase):
         self.assertEqual({name: int(size) for name, size in sizes.items()},
                          {"SOURCE_ROW": SOURCE_WORDS, "TARGET_ROW": TARGET_WORDS,
                           "READ_ENTRY": READ.count("#"), "CALL_ENTRY": CALL.count("#"),
-                          "CONTENTS": CONTENTS, "CEILING": CEILING})
+                          "SORT_ENTRY": SORT_WORDS, "CONTENTS": FIRST.contents,
+                          "SECOND_CONTENTS": SECOND.contents, "CEILING": CEILING})
 
 
 class Answers(unittest.TestCase):
     def test_page(self):
         rows = table("ANSWERS.md", "number")
         self.assertEqual({int(row[0]): row[1] for row in rows}, defined_answers())
-        self.assertEqual(len(rows), 25)
+        self.assertEqual(len(rows), 26)
+        for page in (content("README.md"), content("docs", "ANSWERS.md")):
+            self.assertIn(f"{len(rows)} numbers", page)
 
     def test_header(self):
         self.assertEqual(enumerators("gilfrunt_number"),
@@ -164,15 +176,28 @@ class Answers(unittest.TestCase):
         self.assertEqual(sorted(declared), sorted(exported))
         self.assertEqual(page, set(exported))
 
+    DECLARED = (("include", "gilfrunt.h"), "gilfrunt_answer "), (("examples", "gilfrunt.rs"), "    fn ")
+
+    def parameters(self, path, start, name):
+        """Those of a function's one declaration in a file, in order."""
+        found = re.findall(rf"(?ms)^{start}gilfrunt_{name}\((.*?)\).*?;$", content(*path))
+        self.assertEqual(len(found), 1, name)
+        return [" ".join(part.split()) for part in found[0].split(",") if part.strip()]
 
     def test_strict_functions_take_the_same_lists(self):
-        for path, start, end in ((("include", "gilfrunt.h"), "gilfrunt_answer ", ";"),
-                                 (("examples", "gilfrunt.rs"), "    fn ", ";")):
-            for name in ("check", "judge"):
-                found = [re.findall(rf"(?ms)^{start}gilfrunt_{kind}{name}\((.*?)\).*?{end}$",
-                                    content(*path)) for kind in ("", "strict_")]
-                self.assertEqual(len(found[0]), 1)
-                self.assertEqual(found[0], found[1])
+        for path, start in self.DECLARED:
+            for name in ("check", "judge", "check_with_sorts"):
+                self.assertEqual(self.parameters(path, start, "strict_" + name),
+                                 self.parameters(path, start, name))
+
+    def test_sorts_stand_before_what_is_lent(self):
+        for path, start in self.DECLARED:
+            for name, lent in (("source_widths", 1), ("check", 4), ("strict_check", 4)):
+                found = self.parameters(path, start, name + "_with_sorts")
+                at = len(found) - 2 * lent - 2
+                self.assertEqual(found[:at] + found[at + 2:], self.parameters(path, start, name))
+                self.assertEqual(re.findall(r"\bsorts\w*", " ".join(found[at:at + 2])),
+                                 ["sorts", "sorts_len"])
 
 
 class Books(unittest.TestCase):
@@ -182,6 +207,16 @@ class Books(unittest.TestCase):
                          [[str(at), section.name] for at, section in enumerate(SECTIONS, 1)])
         for row, section in zip(rows, SECTIONS):
             self.assertEqual(row[3], "one byte each" if section.form == BITS else str(section.size))
+
+    def test_editions(self):
+        rows = table("BOOKS.md", "edition")
+        self.assertEqual([row[:3] for row in rows],
+                         [[edition.name, str(edition.contents), f"1 to {len(edition.sections)}"]
+                          for edition in EDITIONS])
+        for row, edition in zip(rows, EDITIONS):
+            self.assertEqual(row[4], f"0 under {edition.contents} bytes, {edition.left} for bytes "
+                             "left over")
+        self.assertIn("= " + SORT.replace("#", "N"), content("docs", "BOOKS.md"))
 
     def test_header(self):
         self.assertEqual(enumerators("gilfrunt_section_number"),
