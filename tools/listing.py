@@ -385,13 +385,15 @@ def section_lines(book, place):
 
 
 def listing(bodies, edition=None):
-    """The listing of a book's bodies; those that the edition has more are left out, as if empty."""
+    """The listing of a book's bodies. Those that the edition has more are left out, as if empty,
+    and without the sort table of a second edition the notes, which stand on it."""
     missing = len((edition or FIRST).sections) - len(bodies)
-    book = Book(bodies + [b""] * missing)
-    text = ""
+    book, text = Book(bodies + [b""] * missing), ""
+    noted = missing <= 0 or not book.sorts.second
     for place, body in enumerate(bodies):
         section = SECTIONS[place]
         lines = [(section.name, f"section {place + 1}, {len(body)} bytes: {section.holds}")]
-        lines += [("  " + line, note) for line, note in section_lines(book, place)]
+        lines += [("  " + line, note if noted else "")
+                  for line, note in section_lines(book, place)]
         text += "".join(f"{line:<44} # {note}\n" if note else line + "\n" for line, note in lines)
     return text

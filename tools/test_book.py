@@ -165,7 +165,7 @@ class RoundTrip(unittest.TestCase):
         text = listing(decode(sample("new-scale-unlisted-read", ".book"))[0])
         self.assertEqual(re.findall(r"(?m)^  [0-4]: variable \d+ .* # (.*)$", text), [
             "array 0: indices of 16 bits, cells of 16 bits"] * 2 + [
-            "array 1: indices of 8 bits, cells of 8 bits", "array 2 is not listed",
+            "array 1: indices of 32 bits, cells of 8 bits", "array 2 is not listed",
             "array 0: indices of 16 bits, cells of 16 bits"])
 
     def test_bad_sorts_are_noted(self):
@@ -366,27 +366,27 @@ EXPLAINED = [
     ("sorts-cut", ["\nsort entry 1: words 8 16\nan entry is three words"]),
     ("sorts-zero", ["\nsort entry 0: array 7 index width 0 cell width 16\n"
                     "the index width is 0"]),
-    ("new-scale-unlisted", ["source row 8: Select array 1 index 6 pairs 0+0 (ill-formed)\n",
+    ("new-scale-unlisted", ["source row 9: Select array 1 index 7 pairs 0+0 (ill-formed)\n",
                             "\narray 1 is not listed; those that are: 0\n"]),
     ("sorts-empty", ["\narray 7 is not listed; none is\n"]),
     ("sorts-ceiling", ["\narray 7: indices of 16 bits, cells of 4097 bits\n",
                        "it would have 4,097 bits; no row may have more than 4,096"]),
-    ("new-scale-cell", ["read entry 2: variable 8 array 0 index 2\n"
+    ("new-scale-cell", ["read entry 2: variable 9 array 0 index 2\n"
                         "array 0: indices of 16 bits, cells of 16 bits\n"
-                        "the variable must be a Var of 16 bits; target row 8: Var 8 (8 bits)"]),
-    ("new-scale-index", ["read entry 2: variable 8 array 1 index 4\n"
-                         "array 1: indices of 8 bits, cells of 8 bits\n"
-                         "the index must be a row of 8 bits; target row 4: Var 16 (16 bits)"]),
+                        "the variable must be a Var of 16 bits; target row 9: Var 8 (8 bits)"]),
+    ("new-scale-index", ["read entry 2: variable 9 array 1 index 4\n"
+                         "array 1: indices of 32 bits, cells of 8 bits\n"
+                         "the index must be a row of 32 bits; target row 4: Var 16 (16 bits)"]),
     ("new-scale-unlisted-read", ["\narray 2 is not listed; those that are: 0, 1"]),
     ("sorts-bit", ["target bits, position 1: 2"]),
     ("new-scale-left-over", ["the second edition, which has 12 sections\n"
-                             "the sections end at byte 2744, the book has 2752"]),
+                             "the sections end at byte 2872, the book has 2880"]),
     ("new-scale-short", ["the second edition, which has 12 sections\n"
                          "the book has 191 bytes, its contents alone take 192"]),
     ("new-scale-start", ["section 1 starts at 184; it must start at 176 (first edition) or 192 "
                          "(second edition)"]),
-    ("new-scale-half-word", ["section 12, sorts: start 2696, length 44\n"
-                             "it must start at 2696, be whole words"]),
+    ("new-scale-half-word", ["section 12, sorts: start 2824, length 44\n"
+                             "it must start at 2824, be whole words"]),
 ]
 
 
@@ -406,7 +406,7 @@ STRICT_EXPLAINED = [
     ("case-7", ["left over", "target root 1"]),
     ("new-scale", ["or neither is\nevery root, of source and target, is a row of one bit\n"
                    "second edition: 2 arrays listed\n"]),
-    ("new-scale-word", ["source root 0: source row 15: And 4 2 (16 bits)\n",
+    ("new-scale-word", ["source root 0: source row 16: And 4 2 (16 bits)\n",
                         "in one bit that is Eq of the row and a constant 1 of 16 bits"]),
 ]
 
@@ -468,7 +468,14 @@ class Explanations(unittest.TestCase):
         data = sample("new-scale", ".book")
         self.assertEqual(explain(data, (28, 2, 0))[1:], ["sort entry 2: there is none"])
         self.assertEqual(explain(data, (28, 1, 0))[1:],
-                         ["sort entry 1: array 1 index width 8 cell width 8"])
+                         ["sort entry 1: array 1 index width 32 cell width 8"])
+
+    def test_good_entries(self):
+        """Of a read entry with which nothing is wrong nothing is said."""
+        for name in ("reply", "reply-second", "new-scale", "sorts-wide"):
+            data = sample(name, ".book")
+            for place in range(len(Book(decode(data)[0]).reads) // 3):
+                self.assertEqual(len(explain(data, (5, place, 0))), 2)
 
     def test_only_the_strict_check_speaks_of_bits(self):
         for name in ("reply", "wide-root"):
@@ -638,8 +645,8 @@ class Pictures(unittest.TestCase):
         """Below the picture of a second edition, the first few."""
         self.assertNotIn("indices of", self.picture("reply"))
         picture = self.picture("new-scale")
-        for text in ("array 0: indices of 16 bits, cells of 16 bits<", "array 1 at 6",
-                     "array 1: indices of 8 bits, cells of 8 bits<"):
+        for text in ("array 0: indices of 16 bits, cells of 16 bits<", "array 1 at 7",
+                     "array 1: indices of 32 bits, cells of 8 bits<"):
             self.assertIn(text, picture)
         picture = draw([b""] * 11 + [pack([k // 3 + 1 for k in range(27)])])
         self.assertEqual(picture.count("indices of"), 6)
@@ -747,18 +754,25 @@ class CommandLine(unittest.TestCase):
         self.assertIn("0 bytes", message)
 
     def test_bad_shape_of_a_second_edition(self):
-        """Shown as far as it goes: behind the last section all is there, widths too."""
-        for name, part, shown in (("new-scale-left-over", "has 2752", "# 16 bits; 0 -> 13"),
-                                  ("new-scale-half-word", "section 12", "4: Select array 0"),
-                                  ("new-scale-start", "starts at 184", "")):
+        """Shown as far as it goes, with notes where the sort table is there."""
+        row = "  9: Select array 1 index 7 pairs 0+0"
+        for name, part, shown in (
+                ("new-scale-left-over", "has 2880\n", row + "        # 8 bits\n"),
+                ("new-scale-half-word", "section 12, sorts:", row + "\n"),
+                ("new-scale-start", "starts at 184; ", "")):
             path = os.path.join(TOP, "samples", name + ".book")
-            for words in (["show"], ["draw"]):
-                printed, message = self.run_book(*words, path, status=1)
-                self.assertEqual(printed, b"")
-                self.assertIn(part, message)
-                self.assertEqual("\nsorts " in message, (name, words) == (
-                    "new-scale-left-over", ["show"]))
-            self.assertIn(shown, self.run_book("show", path, status=1)[1])
+            printed, message = self.run_book("show", path, status=1)
+            self.assertEqual(printed, b"")
+            self.assertIn(part, message)
+            self.assertIn(shown, message)
+            self.assertEqual("\nsorts " in message, name == "new-scale-left-over")
+            self.assertEqual("target roots" in message, name != "new-scale-start")
+            printed, message = self.run_book("draw", path, status=1)
+            self.assertEqual(printed, b"")
+            self.assertIn(part, message)
+        first = sample("case-1", ".book")[:-8]
+        self.assertIn("1: Select array 7 index 0 pairs 0+0        # 8 bits\n",
+                      self.run_book("show", "-", status=1, given=first)[1])
 
     def test_long_book(self):
         text = b"source bits\n" + b"0" * 70000
