@@ -7,7 +7,8 @@
     tools/book.py explain BOOK [--strict] [--verdict PROGRAM]
 
 - stands for standard input. --strict asks the program strict_verdict, to which a root
-must be of one bit. docs/BOOKS.md has the formats of books and listings.
+must be of one bit. Books are of the first or the second edition; a listing with the section
+`sorts` makes one of the second. docs/BOOKS.md has the formats of books and listings.
 
 Unproved. What is proved is the checker and the programs, which read the
 book's bytes themselves; a mistake here can make another book than was meant, or

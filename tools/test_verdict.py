@@ -53,7 +53,7 @@ class Answers(Release):
         self.assertEqual(self.printing(r"printf 'accepted\n'"), (0, b"accepted\n"))
 
     def test_refused(self):
-        for line in ["refused 20 0 0", "refused 16 10 2", "refused 3 18446744073709551615 7"]:
+        for line in ["refused 20 0 0", "refused 20 14 0", "refused 28 1 0", "refused 16 10 2", "refused 3 18446744073709551615 7"]:
             self.assertEqual(self.printing(f"echo '{line}'"), (1, line.encode() + b"\n"))
 
     def test_other_texts(self):
