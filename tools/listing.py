@@ -314,13 +314,15 @@ def entries_lines(form, entries, note):
 
 def reads_lines(book):
     """In a second edition with the array's widths."""
-    return entries_lines(READ, table_entries(READ, book.reads), lambda _, entry: book.sorts.text(
-        entry[1]) if book.sorts.second and len(entry) == 3 else "")
+    def note(_, entry):
+        return book.sorts.text(entry[1]) if book.sorts.second and len(entry) == 3 else ""
+    return entries_lines(READ, table_entries(READ, book.reads), note)
 
 
 def calls_lines(book):
-    return entries_lines(CALL, table_entries(CALL, book.calls), lambda _, entry: book.call(
-        entry)[0].text() if len(entry) == 4 else "")
+    def note(_, entry):
+        return book.call(entry)[0].text() if len(entry) == 4 else ""
+    return entries_lines(CALL, table_entries(CALL, book.calls), note)
 
 
 def sorts_lines(book):
