@@ -97,7 +97,8 @@ fn one_more(random: &mut Random, lists: &mut Lists) {
     lists[at::SOURCE].extend([CALL, entry[1], width, start, entry[3]]);
     lists[at::SIDE].extend(pairs.iter().map(|pair| pair[0]));
     lists[at::MAP].push(variable);
-    lists[at::LENT].push(1);
+    let lent = at::lent(lists);
+    lists[lent].push(1);
     let start = lists[at::ARGUMENTS].len() as u64;
     lists[at::ARGUMENTS].extend(pairs.iter().map(|pair| pair[1]));
     let entries = lists[at::CALLS].len() / 4;

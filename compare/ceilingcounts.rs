@@ -1,8 +1,9 @@
 //! What a run has met at the ceiling: who answered, the Rust or the rule, and by
 //! tag the rows that just reach it and those that pass it. Where functions are told
-//! apart by their widths, another rule answered; functioncounts.rs has those cases.
+//! apart by their widths, another rule answered; functioncounts.rs has those cases. So it
+//! is in operations with a sort table, and they count nothing here.
 
-use crate::operation::{Lists, Operation};
+use crate::operation::{Kind, Lists, Operation};
 use crate::ours::Answer;
 use crate::rules::{self, Graph, Judged, CEILING, SOURCE};
 use crate::tags::{TAGS, WIDENING};
@@ -35,7 +36,11 @@ impl CeilingCounts {
             taken: ByTag::default(),
             refused: ByTag::default(),
         };
-        let graphs = rules::graphs(operation.lists());
+        let sorts = (operation.lists().iter()).any(|&(_, kind)| kind == Kind::Sorts);
+        let graphs = match sorts {
+            false => rules::graphs(operation.lists()),
+            true => Vec::new(),
+        };
         CeilingCounts {
             rust: 0,
             rule: 0,

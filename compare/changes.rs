@@ -18,7 +18,7 @@ const TAG_WORDS: [u64; 12] = [
 pub fn each(lists: &Lists) -> Vec<Lists> {
     let mut cases = Vec::new();
     for list in 0..lists.len() {
-        if list < at::LENT {
+        if list < at::lent(lists) {
             cases.extend(words_changed(lists, list));
             cases.extend(neighbours_swapped(lists, list));
             cases.extend(
@@ -69,7 +69,7 @@ fn words_changed(lists: &Lists, list: usize) -> Vec<Lists> {
         };
         match list {
             at::SOURCE | at::TARGET if place % row == 0 => words.extend(TAG_WORDS),
-            at::SOURCE | at::TARGET => words.extend([CEILING, CEILING + 1]),
+            at::SOURCE | at::TARGET | at::SORTS => words.extend([CEILING, CEILING + 1]),
             _ => {}
         }
         words.sort();

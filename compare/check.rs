@@ -4,13 +4,14 @@
 //! the Rust's `roots_wf` about both root lists before. Classes and entry offsets, which
 //! the Rust keeps to itself, come from restated.rs. The second reference is
 //! restated.rs where the Rust is the first, else the Rust with the functions renamed.
-//! selftest.rs runs both without the library.
+//! selftest.rs runs both without the library. sortedcheck.rs has them with a sort table.
 
 use crate::ceilingcases;
 use crate::changes;
+use crate::editions;
 use crate::features;
 use crate::functioncases;
-use crate::functions::{self, Rule};
+use crate::functions;
 use crate::lowering;
 use crate::marked;
 use crate::operation::{Feature, Kind, Lists, Operation, Outcome};
@@ -18,14 +19,15 @@ use crate::ours::{self, Answer};
 use crate::random::Random;
 use crate::reference;
 use crate::renamed::renamed;
-use crate::restated::{self, Written};
+use crate::restated::{self, Rules, Written};
 use crate::rootcounts;
 use crate::rootspoil;
 use crate::rules::{self, ACCEPTED, SOURCE, TARGET};
+use crate::simpler;
+use crate::sortedcheck::{CHECK_WITH_SORTS, STRICT_CHECK_WITH_SORTS};
+use crate::sorts::Edition;
 use crate::spoil;
-use crate::strict::Strict;
 use crate::strictcases;
-use crate::tags::{names_row, BOOL_OR};
 
 pub struct Check {
     /// Must every root have one bit?
@@ -43,6 +45,8 @@ const ANSWERS: [u64; 20] = [
 
 /// The places of its lists.
 pub mod at {
+    use crate::operation::Lists;
+
     pub const SOURCE: usize = 0;
     pub const SOURCE_BITS: usize = 1;
     pub const SIDE: usize = 2;
@@ -54,9 +58,31 @@ pub mod at {
     pub const TARGET: usize = 8;
     pub const TARGET_BITS: usize = 9;
     pub const TARGET_ROOTS: usize = 10;
-    /// The first of the four lent lists.
-    pub const LENT: usize = 11;
+    /// The sort table, which a first edition does not have.
+    pub const SORTS: usize = 11;
+
+    /// The first of the four lent lists, which come last.
+    pub fn lent(lists: &Lists) -> usize {
+        lists.len() - 4
+    }
 }
+
+/// The lists of bits.
+const BITS: [usize; 2] = [at::SOURCE_BITS, at::TARGET_BITS];
+
+/// Its refusals 15 to 18, each with the graph or the lent list that it names.
+pub const PARTS: [(u64, u64); 10] = [
+    (15, 1),
+    (15, 2),
+    (16, 1),
+    (16, 2),
+    (17, 1),
+    (17, 2),
+    (18, 1),
+    (18, 2),
+    (18, 3),
+    (18, 4),
+];
 
 impl Operation for Check {
     fn number(&self) -> u64 {
@@ -101,18 +127,7 @@ impl Operation for Check {
     }
 
     fn parts(&self) -> &'static [(u64, u64)] {
-        &[
-            (15, 1),
-            (15, 2),
-            (16, 1),
-            (16, 2),
-            (17, 1),
-            (17, 2),
-            (18, 1),
-            (18, 2),
-            (18, 3),
-            (18, 4),
-        ]
+        &PARTS
     }
 
     fn features(&self) -> Vec<Feature> {
@@ -165,17 +180,32 @@ impl Operation for Check {
 
     fn ours(&self, lists: &Lists) -> Outcome {
         let mut lists = lists.clone();
-        let mut bits = [at::SOURCE_BITS, at::TARGET_BITS]
-            .map(|list| lists[list].iter().map(|&b| b as u8).collect::<Vec<u8>>());
-        let (answer, strayed) = call(self.strict, &mut lists, &mut bits);
-        for (list, bits) in [at::SOURCE_BITS, at::TARGET_BITS].into_iter().zip(bits) {
-            lists[list] = bits.into_iter().map(u64::from).collect();
-        }
-        Outcome {
-            answer,
-            lists,
-            strayed,
-        }
+        let mut bits = bytes(&lists);
+        let [source, _, side, source_roots, map, reads, calls, arguments, target, _, target_roots, lent @ ..] =
+            &mut lists[..]
+        else {
+            unreachable!("check has fifteen lists")
+        };
+        let call = ours::fenced_four(lent, |lent| {
+            let words: [&mut [u64]; 9] = [
+                source,
+                side,
+                source_roots,
+                map,
+                reads,
+                calls,
+                arguments,
+                target,
+                target_roots,
+            ];
+            ours::check(
+                self.strict,
+                words,
+                bits.each_mut().map(|bits| &mut bits[..]),
+                lent,
+            )
+        });
+        left(lists, bits, call)
     }
 
     fn expected(&self, lists: &Lists) -> Outcome {
@@ -208,21 +238,16 @@ impl Operation for Check {
             && self.bad_root(lists).is_none()
     }
 
-    /// The case without a row, later rows counted anew; without an entry of a
-    /// table and its roots; or without both.
+    fn with_sorts(&self, lists: &Lists) -> Option<(&'static dyn Operation, Lists)> {
+        let operation: &'static dyn Operation = match self.strict {
+            false => &CHECK_WITH_SORTS,
+            true => &STRICT_CHECK_WITH_SORTS,
+        };
+        Some((operation, editions::sorted(lists, at::SORTS)))
+    }
+
     fn simpler(&self, lists: &Lists) -> Vec<Lists> {
-        let count = |list: usize, size: usize| 0..lists[list].len() / size;
-        let reads = count(at::READS, 3).map(|k| without_entry(lists, at::READS, 3 * k, 3));
-        let calls = count(at::CALLS, 4).map(|k| without_entry(lists, at::CALLS, 4 * k, 4));
-        let entries: Vec<Lists> = reads.chain(calls).collect();
-        let mut simpler = entries.clone();
-        for row in count(at::SOURCE, SOURCE.row) {
-            simpler.push(without_source(lists, row));
-            simpler.extend(entries.iter().map(|fewer| without_source(fewer, row)));
-        }
-        let targets = count(at::TARGET, TARGET.row).map(|row| without_target(lists, row));
-        simpler.extend(targets);
-        simpler
+        simpler::each(lists)
     }
 }
 
@@ -242,42 +267,35 @@ impl Check {
     }
 
     fn restated(&self, lists: &Lists) -> (Answer, Written) {
-        restated::check_by(Rule::Right, Strict::of(self.strict), lists)
+        restated::check_by(Rules::right(self.strict), lists)
     }
 }
 
-/// The library's answer, each lent list between fences, and whether it wrote to one.
-fn call(strict: bool, lists: &mut Lists, bits: &mut [Vec<u8>; 2]) -> (Answer, bool) {
-    let [source, _, side, source_roots, map, reads, calls, arguments, target, _, target_roots, ws0, ws1, classes, entries] =
-        &mut lists[..]
-    else {
-        unreachable!("check has fifteen lists")
-    };
-    let [source_bits, target_bits] = bits;
-    let mut inner = false;
-    let (answer, outer) = ours::fenced_both([ws0, ws1], |ws0, ws1| {
-        let (answer, strayed) = ours::fenced_both([classes, entries], |classes, entries| {
-            ours::check(
-                strict,
-                [
-                    source,
-                    side,
-                    source_roots,
-                    map,
-                    reads,
-                    calls,
-                    arguments,
-                    target,
-                    target_roots,
-                ],
-                [source_bits, target_bits],
-                [ws0, ws1, classes, entries],
-            )
-        });
-        inner = strayed;
-        answer
-    });
-    (answer, inner || outer)
+/// Check, or the strict check, as the edition of these lists asks for it.
+pub fn by_edition(strict: bool, lists: &Lists) -> &'static dyn Operation {
+    match (Edition::of(lists), strict) {
+        (Edition::First, false) => &CHECK,
+        (Edition::First, true) => &STRICT_CHECK,
+        (Edition::Second(_), false) => &CHECK_WITH_SORTS,
+        (Edition::Second(_), true) => &STRICT_CHECK_WITH_SORTS,
+    }
+}
+
+/// The bits of both graphs as bytes.
+pub fn bytes(lists: &Lists) -> [Vec<u8>; 2] {
+    BITS.map(|list| lists[list].iter().map(|&bit| bit as u8).collect())
+}
+
+/// The outcome of a call of the library that left these lists and bits.
+pub fn left(mut lists: Lists, bits: [Vec<u8>; 2], (answer, strayed): (Answer, bool)) -> Outcome {
+    for (list, bits) in BITS.into_iter().zip(bits) {
+        lists[list] = bits.into_iter().map(u64::from).collect();
+    }
+    Outcome {
+        answer,
+        lists,
+        strayed,
+    }
 }
 
 /// The lists of a lowering, with lent lists that fit it or have words to spare.
@@ -292,9 +310,9 @@ pub fn lent(random: &mut Random, mut lists: Lists) -> Lists {
 }
 
 /// The outcome of an answer, where acceptance writes these lists.
-fn outcome(lists: &Lists, answer: Answer, written: &Written) -> Outcome {
+pub fn outcome(lists: &Lists, answer: Answer, written: &Written) -> Outcome {
     let mut after = lists.clone();
-    for (list, written) in after[at::LENT..].iter_mut().zip(written) {
+    for (list, written) in after[at::lent(lists)..].iter_mut().zip(written) {
         *list = rules::lent_after(answer, list, written);
     }
     Outcome {
@@ -313,83 +331,4 @@ fn with_widths(lists: &Lists, answer: Answer) -> Outcome {
     let [source, target] = reference::check_widths(lists);
     let [_, _, classes, entries] = restated::check(lists).1;
     outcome(lists, answer, &[source, target, classes, entries])
-}
-
-/// The lists without a stretch of one of them.
-fn without(lists: &Lists, list: usize, start: usize, length: usize) -> Lists {
-    let mut fewer = lists.clone();
-    fewer[list].drain(start..start + length);
-    fewer
-}
-
-/// The lists without an entry of a table and without the roots that say that
-/// its variable equals another one.
-fn without_entry(lists: &Lists, table: usize, start: usize, size: usize) -> Lists {
-    let variable = lists[table][start];
-    let row = |number: u64| {
-        let start = usize::try_from(number).ok()?.checked_mul(TARGET.row)?;
-        lists[at::TARGET].get(start..start.checked_add(TARGET.row)?)
-    };
-    let says = |root: u64| {
-        let equal = row(root)
-            .filter(|row| row[0] == BOOL_OR)
-            .and_then(|or| row(or[2]));
-        equal.is_some_and(|equal| equal[1..3].contains(&variable))
-    };
-    let mut fewer = without(lists, table, start, size);
-    fewer[at::TARGET_ROOTS].retain(|&root| !says(root));
-    fewer
-}
-
-/// The number of a row once an earlier one is dropped.
-fn lowered(word: u64, dropped: usize) -> u64 {
-    let counts = word > dropped as u64 && word < 1000;
-    word - u64::from(counts)
-}
-
-fn lower(words: &mut [u64], dropped: usize) {
-    words
-        .iter_mut()
-        .for_each(|word| *word = lowered(*word, dropped));
-}
-
-/// Lowers the operands in the rows of a graph.
-fn lower_operands(rows: &mut [u64], size: usize, dropped: usize) {
-    for row in rows.chunks_exact_mut(size) {
-        let tag = row[0];
-        for k in (1..size).filter(|&k| names_row(tag, k)) {
-            row[k] = lowered(row[k], dropped);
-        }
-    }
-}
-
-/// The lists without a row of the source.
-fn without_source(lists: &Lists, row: usize) -> Lists {
-    let mut fewer = without(lists, at::SOURCE, row * SOURCE.row, SOURCE.row);
-    lower_operands(&mut fewer[at::SOURCE], SOURCE.row, row);
-    lower(&mut fewer[at::SIDE], row);
-    lower(&mut fewer[at::SOURCE_ROOTS], row);
-    if row < fewer[at::MAP].len() {
-        fewer[at::MAP].remove(row);
-    }
-    fewer
-}
-
-/// The lists without a row of the target.
-fn without_target(lists: &Lists, row: usize) -> Lists {
-    let mut fewer = without(lists, at::TARGET, row * TARGET.row, TARGET.row);
-    lower_operands(&mut fewer[at::TARGET], TARGET.row, row);
-    for list in [at::MAP, at::ARGUMENTS, at::TARGET_ROOTS] {
-        lower(&mut fewer[list], row);
-    }
-    for read in fewer[at::READS].chunks_mut(3) {
-        read[0] = lowered(read[0], row);
-        read.iter_mut()
-            .skip(2)
-            .for_each(|index| *index = lowered(*index, row));
-    }
-    for call in fewer[at::CALLS].chunks_mut(4) {
-        call[0] = lowered(call[0], row);
-    }
-    fewer
 }

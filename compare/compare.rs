@@ -19,6 +19,8 @@ pub struct Run {
     /// Is the library asked, or are only the references held to each other?
     library: bool,
     tally: Tally,
+    /// Cases of a first edition that were run again with a sort table.
+    again: u64,
 }
 
 /// Runs the comparison, of all operations or of one; false at a disagreement or
@@ -39,7 +41,7 @@ pub fn compare(seed: u64, cases: u64, only: Option<&'static dyn Operation>) -> b
         let mut random = Random::of_case(seed, case);
         let operation = choose(&mut random, &operations);
         let lists = operation.generate(&mut random, ROWS);
-        run.judge(operation, &lists, || {
+        run.judge_both(operation, &lists, || {
             format!("random case {case} of seed {seed}")
         })
     });
@@ -60,8 +62,11 @@ fn choose(random: &mut Random, from: &[(&'static dyn Operation, u64)]) -> &'stat
 
 impl Run {
     pub fn new(operations: &[&'static dyn Operation], library: bool) -> Run {
-        let tally = Tally::new(operations);
-        Run { library, tally }
+        Run {
+            library,
+            tally: Tally::new(operations),
+            again: 0,
+        }
     }
 
     fn tiny(&mut self, operations: &[&'static dyn Operation]) -> bool {
@@ -69,7 +74,7 @@ impl Run {
             let chosen = operations
                 .iter()
                 .any(|of| of.number() == operation.number());
-            !chosen || self.judge(operation, lists, || "a tiny case".to_string())
+            !chosen || self.judge_both(operation, lists, || "a tiny case".to_string())
         };
         tiny::each(&mut visit) && grid::each(&mut visit)
     }
@@ -80,12 +85,13 @@ impl Run {
         (known
             .iter()
             .all(|(lists, answer)| self.answered(operation, lists, *answer, "a known case")))
-            && (operation.changed().iter())
-                .all(|lists| self.judge(operation, lists, || "a changed known case".to_string()))
+            && (operation.changed().iter()).all(|lists| {
+                self.judge_both(operation, lists, || "a changed known case".to_string())
+            })
     }
 
     /// Runs one case and counts it; false, with a report, when outcomes differ.
-    pub fn judge(
+    fn judge(
         &mut self,
         operation: &dyn Operation,
         lists: &Lists,
@@ -103,6 +109,23 @@ impl Run {
         other == expected || report(operation, Pair::References, lists, &which())
     }
 
+    /// Runs one case, then the same with a sort table of 32 and 8, where the run has that
+    /// operation.
+    pub fn judge_both(
+        &mut self,
+        operation: &dyn Operation,
+        lists: &Lists,
+        which: impl Fn() -> String,
+    ) -> bool {
+        let good = self.judge(operation, lists, &which);
+        let again = operation.with_sorts(lists);
+        let again = again.filter(|(sorted, _)| self.tally.has(*sorted));
+        good && again.is_none_or(|(sorted, lists)| {
+            self.again += 1;
+            self.judge(sorted, &lists, || format!("{}, with a sort table", which()))
+        })
+    }
+
     /// The same for a case whose answer is known.
     pub fn answered(
         &mut self,
@@ -116,11 +139,15 @@ impl Run {
             println!("{which} should get {known:?}, but Rust and rules give {answer:?}");
             return false;
         }
-        self.judge(operation, lists, || which.to_string())
+        self.judge_both(operation, lists, || which.to_string())
     }
 
     /// Prints what came; false if something never did in so many random cases.
     pub fn complete(&self, cases: u64) -> bool {
+        println!(
+            "with a sort table of 32 and 8 once more: {} cases",
+            self.again
+        );
         self.tally.complete(cases)
     }
 }

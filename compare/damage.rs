@@ -34,7 +34,9 @@ fn damage_list(
     match kinds[place].1 {
         Kind::Rows(row) => damage_rows(random, list, row, &ends),
         Kind::Bits => damage_bits(random, list),
-        Kind::Given(_) | Kind::Entries(_) | Kind::Words => damage_words(random, list, &ends),
+        Kind::Given(_) | Kind::Entries(_) | Kind::Sorts | Kind::Words => {
+            damage_words(random, list, &ends)
+        }
         Kind::Lent(of) => relend(random, list, ends[of] as usize),
     }
 }

@@ -27,6 +27,14 @@ pub fn features() -> Vec<Feature> {
     features
 }
 
+/// Those about Selects and the read table alone.
+pub fn of_reads() -> Vec<Feature> {
+    let named = READS.into_iter();
+    named
+        .map(|(name, has)| -> Feature { (name.to_string(), Box::new(has)) })
+        .collect()
+}
+
 pub type Named = (&'static str, fn(&Lists) -> bool);
 
 /// About rows, constants and roots.

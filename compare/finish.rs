@@ -1,8 +1,9 @@
 //! The end of writing a lowering: tables in some order, congruence roots, rows in
-//! some order, and the eleven lists.
+//! some order, and the eleven lists, with a sort table twelve.
 
 use crate::lowering::Writer;
 use crate::operation::Lists;
+use crate::shapes;
 use crate::tags::*;
 
 const MAX: u64 = u64::MAX;
@@ -132,7 +133,8 @@ impl Writer<'_> {
     pub fn lists(mut self, source_roots: Vec<u64>) -> Lists {
         let [calls, arguments] = self.call_lists();
         let source = self.source.rows.concat();
-        vec![
+        let sorts = self.source.sorts.map(|table| shapes::words(&table));
+        let mut lists = vec![
             source,
             self.source.bits,
             self.source.side,
@@ -144,7 +146,9 @@ impl Writer<'_> {
             self.target.concat(),
             self.bits,
             self.roots,
-        ]
+        ];
+        lists.extend(sorts);
+        lists
     }
 }
 

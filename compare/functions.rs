@@ -64,7 +64,7 @@ impl Check<'_> {
     /// function? Number and count must agree, the width of the variable, and that of
     /// each argument, first to last.
     pub fn same_function(&self, one: &[u64], other: &[u64], asked: Asked) -> bool {
-        let looked = |(width, _): &(usize, _)| self.rule.looks_at(*width, one[3], asked);
+        let looked = |(width, _): &(usize, _)| self.rules.functions.looks_at(*width, one[3], asked);
         let both = self.call_widths(one).zip(self.call_widths(other));
         let mut widths = both.enumerate().filter(looked);
         one[1] == other[1] && one[3] == other[3] && widths.all(|(_, (a, b))| a == b)
@@ -73,7 +73,7 @@ impl Check<'_> {
     /// The widths of an entry's variable and of its arguments.
     fn call_widths<'c>(&'c self, entry: &'c [u64]) -> impl Iterator<Item = Option<u64>> + 'c {
         let [source, target] = &self.widths;
-        let widths = match self.rule {
+        let widths = match self.rules.functions {
             Rule::SourceWidths => source,
             _ => target,
         };

@@ -1,10 +1,13 @@
 //! Random well-formed graphs. A row is made to fit the rows before it; where
 //! none of them has the width it needs, a variable of that width is put first.
-//! Selects and Calls are in chains.rs, operands for values in operands.rs.
+//! Selects and Calls are in chains.rs, operands for values in operands.rs, the shapes of
+//! arrays in shapes.rs.
 
 use crate::operation::Lists;
 use crate::random::Random;
-use crate::rules::{Graph, CEILING};
+use crate::rules::{Graph, CEILING, SOURCE};
+use crate::shapes::{self, Sort};
+use crate::sorts::Shape;
 use crate::tags::*;
 
 /// What a graph is rich in.
@@ -32,10 +35,20 @@ pub struct Builder<'r> {
     pub widths: Vec<u64>,
     pub bits: Vec<u64>,
     pub side: Vec<u64>,
-    /// Start and pair count of the chains in the side list.
-    pub chains: Vec<(u64, u64)>,
+    /// The chains in the side list.
+    pub chains: Vec<Chain>,
+    /// The sort table of a second edition.
+    pub sorts: Option<Vec<Sort>>,
     /// Operands are taken from so many rows back at most.
     reach: usize,
+}
+
+/// Pairs in the side list, made for an array of this shape.
+#[derive(Clone, Copy)]
+pub struct Chain {
+    pub start: u64,
+    pub count: u64,
+    pub shape: Shape,
 }
 
 /// Rows, bits and, for a source, the side list of a random graph that is well
@@ -51,6 +64,24 @@ pub fn well_formed(random: &mut Random, graph: Graph, rows: usize) -> Lists {
     builder.lists(graph)
 }
 
+/// Rows, bits, side list and sort table of a random source of a second edition.
+pub fn with_sorts(random: &mut Random, rows: usize) -> Lists {
+    let style = random.pick(&[Style::Narrow, Style::Wide, Style::Chains, Style::Chains]);
+    let rows = random.place(rows + 1);
+    let table = shapes::table(random, style);
+    let mut builder = Builder::new(random, style, usize::MAX);
+    builder.sorts = Some(table.clone());
+    while builder.rows.len() < rows {
+        match builder.tag(SOURCE) {
+            SELECT if !builder.reads() => builder.row(CALL),
+            tag => builder.row(tag),
+        }
+    }
+    let mut lists = builder.lists(SOURCE);
+    lists.push(shapes::words(&table));
+    lists
+}
+
 impl<'r> Builder<'r> {
     pub fn new(random: &'r mut Random, style: Style, reach: usize) -> Builder<'r> {
         let (rows, widths, chains) = (Vec::new(), Vec::new(), Vec::new());
@@ -63,6 +94,7 @@ impl<'r> Builder<'r> {
             bits,
             side,
             chains,
+            sorts: None,
             reach,
         }
     }
@@ -131,7 +163,7 @@ impl<'r> Builder<'r> {
             ZERO_EXT | SIGN_EXT => of(f[0]) + f[1],
             ITE => of(f[1]),
             EQ..=BOOL_OR => 1,
-            SELECT => 8,
+            SELECT => self.shape(f[0])[1],
             _ => of(f[0]),
         };
         self.rows.push([tag, f[0], f[1], f[2], f[3]]);

@@ -60,7 +60,7 @@ fn lists(input: &[u8], random: &mut Random) -> Lent {
     let needs: Vec<usize> = match book::shape(input) {
         Shape::Good => {
             let lists = book::held(input);
-            let graphs = lists[at::LENT..].iter().map(Vec::len);
+            let graphs = lists[at::lent(&lists)..].iter().map(Vec::len);
             graphs.chain([words(input).len()]).collect()
         }
         _ => vec![2; 5],
@@ -82,7 +82,7 @@ fn expected(check: &Check, input: &[u8], lent: &Lent) -> (Answer, Lent) {
         return (shape.answer(), zeros());
     }
     let mut lists = book::held(input);
-    lists.truncate(at::LENT);
+    lists.truncate(at::lent(&lists));
     lists.extend(lent[..4].iter().cloned());
     let checked = check.expected(&lists);
     if [15, 18].contains(&checked.answer.number) {
@@ -97,7 +97,7 @@ fn expected(check: &Check, input: &[u8], lent: &Lent) -> (Answer, Lent) {
         return (checked.answer, zeros());
     }
     after.resize(room, 0);
-    let mut all: Lent = checked.lists[at::LENT..].to_vec();
+    let mut all: Lent = checked.lists[at::lent(&lists)..].to_vec();
     all.push(after);
     (checked.answer, all)
 }

@@ -67,7 +67,7 @@ pub fn constants(random: &mut Random, rows: usize) -> Lists {
 /// A source of core rows and the same rows as target; the last is the root.
 fn same(rows: Vec<[u64; 5]>, bits: Vec<u64>) -> Lists {
     let last = rows.len() as u64 - 1;
-    let mut lists = vec![Vec::new(); at::LENT];
+    let mut lists = vec![Vec::new(); at::SORTS];
     lists[at::MAP] = (0..=last).collect();
     lists[at::SOURCE_ROOTS].push(last);
     lists[at::TARGET_ROOTS].push(last);
@@ -224,7 +224,7 @@ fn pairs(count: usize, keys: usize) -> impl Iterator<Item = (usize, usize)> {
 impl Lowering {
     fn new() -> Lowering {
         Lowering {
-            lists: vec![Vec::new(); at::LENT],
+            lists: vec![Vec::new(); at::SORTS],
         }
     }
 

@@ -41,12 +41,30 @@ pub fn accepted(random: &mut Random, rows: usize) -> Lists {
 /// The same with roots of one bit.
 pub fn strict(random: &mut Random, rows: usize) -> Lists {
     let mut source = sources::source(random, rows);
+    let roots = one_bit_roots(&mut source);
+    of(source, roots)
+}
+
+/// Up to five roots of one bit.
+fn one_bit_roots(source: &mut Builder) -> Vec<u64> {
     let count = match source.len() {
         0 => source.random.pick(&[0, 0, 1]),
         _ => source.random.place(6),
     };
-    let roots = (0..count).map(|_| source.one_bit_row()).collect();
-    of(source, roots)
+    (0..count).map(|_| source.one_bit_row()).collect()
+}
+
+/// The twelve lists of an accepted lowering of a second edition, with roots of any width or
+/// of one bit.
+pub fn with_sorts(random: &mut Random, rows: usize, strict: bool) -> Lists {
+    let mut source = sources::with_sorts(random, rows);
+    if strict {
+        let roots = one_bit_roots(&mut source);
+        return of(source, roots);
+    }
+    let mut writer = Writer::new(source);
+    let roots = writer.source_roots();
+    writer.written(roots)
 }
 
 /// The same of this source with these roots.
@@ -226,7 +244,7 @@ impl<'r> Writer<'r> {
         if let Some(read) = known {
             return read[0];
         }
-        let variable = self.variable(8);
+        let variable = self.variable(self.source.shape(array)[1]);
         self.reads.push([variable, array, index]);
         variable
     }

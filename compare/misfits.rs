@@ -5,6 +5,7 @@ use crate::check::at;
 use crate::operation::Lists;
 use crate::random::Random;
 use crate::rules::TARGET;
+use crate::sorts::{Edition, FIRST};
 use crate::tags::*;
 
 /// Puts rows behind the target's and as many words behind its lent lists; the
@@ -12,7 +13,8 @@ use crate::tags::*;
 pub fn append(lists: &mut Lists, rows: &[[u64; 4]]) -> u64 {
     let first = lists[at::TARGET].len() / TARGET.row;
     lists[at::TARGET].extend(rows.concat());
-    for list in &mut lists[at::LENT + 1..] {
+    let lent = at::lent(lists);
+    for list in &mut lists[lent + 1..] {
         list.extend(rows.iter().map(|_| 1));
     }
     first as u64
@@ -37,7 +39,9 @@ pub fn again(random: &mut Random, lists: &mut Lists) {
     let call = some_entry(random, &lists[at::CALLS], 4);
     match (random.below(4), read, call) {
         (0, Some(read), _) => {
-            let variable = append(lists, &[[VAR, 8, 0, 0]]);
+            let shape = Edition::of(lists).shape(read[1]);
+            let [_, cell] = shape.unwrap_or(FIRST);
+            let variable = append(lists, &[[VAR, cell, 0, 0]]);
             lists[at::READS].extend([variable, read[1], read[2]]);
         }
         (1, Some(read), _) => lists[at::CALLS].extend([read[0], 3, 0, 0]),

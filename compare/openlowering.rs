@@ -1,17 +1,19 @@
 //! An accepted lowering as statement.rs sees it: two graphs, and three kinds of
 //! variables whose values are given.
 
-use crate::check::{at, CHECK, STRICT_CHECK};
+use crate::check::{at, by_edition};
 use crate::openrows::Graph;
-use crate::operation::{Lists, Operation};
+use crate::operation::Lists;
 use crate::reference::sizes;
 use crate::rules::{ACCEPTED, SOURCE, TARGET};
 use crate::tags::*;
 
 const MAX: u64 = u64::MAX;
 
-/// The place of the classes.
-const CLASSES: usize = at::LENT + 2;
+/// The place of the classes, behind the widths of both graphs.
+fn classes(lists: &Lists) -> usize {
+    at::lent(lists) + 2
+}
 
 /// An accepted lowering without rows above 64 bits.
 pub struct Lowering {
@@ -41,8 +43,9 @@ pub struct Given {
 /// The lists after the library's Check, if it accepts them, and each variable of the
 /// target has class 1 if it is a source variable's image, else class 0, 4 or 5.
 pub fn accepted(lists: &Lists) -> Option<Lists> {
-    let outcome = CHECK.ours(lists);
+    let outcome = by_edition(false, lists).ours(lists);
     let after = outcome.lists;
+    let classes = classes(&after);
     if outcome.answer != ACCEPTED || outcome.strayed {
         return None;
     }
@@ -53,13 +56,13 @@ pub fn accepted(lists: &Lists) -> Option<Lists> {
     };
     let target = after[at::TARGET].chunks_exact(TARGET.row);
     let mut variables = target.enumerate().filter(|(_, words)| words[0] == VAR);
-    let good = variables.all(|(row, _)| expected(row, after[CLASSES][row]));
+    let good = variables.all(|(row, _)| expected(row, after[classes][row]));
     good.then_some(after)
 }
 
 /// Has a graph of these accepted lists a row above 64 bits?
 pub fn too_wide(lists: &Lists) -> bool {
-    let widths = &lists[at::LENT..CLASSES];
+    let widths = &lists[at::lent(lists)..classes(lists)];
     widths.iter().flatten().any(|&width| width > 64)
 }
 
@@ -76,10 +79,11 @@ impl Lowering {
     /// The lowering of such lists.
     pub fn new(lists: Lists) -> Lowering {
         let list = |place: usize| &lists[place][..];
-        let class = |row: usize| lists[CLASSES][row];
-        let source = [at::SOURCE, at::SOURCE_BITS, at::SIDE, at::LENT].map(list);
+        let class = |row: usize| lists[classes(&lists)][row];
+        let lent = at::lent(&lists);
+        let source = [at::SOURCE, at::SOURCE_BITS, at::SIDE, lent].map(list);
         let source = Graph::new(source, SOURCE.row, |_, tag| matches!(tag, SELECT | CALL));
-        let target = [at::TARGET, at::TARGET_BITS, at::SIDE, at::LENT + 1].map(list);
+        let target = [at::TARGET, at::TARGET_BITS, at::SIDE, lent + 1].map(list);
         let target = Graph::new(target, TARGET.row, |row, tag| {
             tag == VAR && matches!(class(row), 4 | 5)
         });
@@ -89,7 +93,7 @@ impl Lowering {
             mapped: mapped(&lists).collect(),
             unmapped: source.variables().filter(unmapped).collect(),
             idle: target.variables().filter(|&row| class(row) == 0).collect(),
-            strict: STRICT_CHECK.ours(&lists).answer == ACCEPTED,
+            strict: by_edition(true, &lists).ours(&lists).answer == ACCEPTED,
             source,
             target,
             lists,
@@ -104,12 +108,13 @@ impl Lowering {
                 .iter()
                 .all(|&root| widths[root as usize] == 1)
         };
-        one_bit(at::SOURCE_ROOTS, at::LENT) && one_bit(at::TARGET_ROOTS, at::LENT + 1)
+        let lent = at::lent(&self.lists);
+        one_bit(at::SOURCE_ROOTS, lent) && one_bit(at::TARGET_ROOTS, lent + 1)
     }
 
     /// The class of a target row.
     pub fn class(&self, row: usize) -> u64 {
-        self.lists[CLASSES][row]
+        self.lists[classes(&self.lists)][row]
     }
 
     /// The source rows that the roots stand on.

@@ -6,6 +6,9 @@ use crate::check::{CHECK, STRICT_CHECK};
 use crate::ours::Answer;
 use crate::random::Random;
 use crate::roots::ROOTS;
+use crate::sortedcheck::{CHECK_WITH_SORTS, STRICT_CHECK_WITH_SORTS};
+use crate::sortedwidths::SOURCE_WIDTHS_WITH_SORTS;
+use crate::sorts::ENTRY;
 use crate::values::VALUES;
 use crate::widths::{SOURCE_WIDTHS, TARGET_WIDTHS};
 
@@ -22,6 +25,8 @@ pub enum Kind {
     Given(usize),
     /// Entries of a table, of so many words each.
     Entries(usize),
+    /// Entries of a sort table.
+    Sorts,
     /// Words of any other meaning.
     Words,
     /// A list lent for writing, a word for each row of the list at this index.
@@ -33,6 +38,7 @@ impl Kind {
     pub fn fields(self) -> usize {
         match self {
             Kind::Rows(size) | Kind::Entries(size) => size,
+            Kind::Sorts => ENTRY,
             Kind::Given(_) | Kind::Words => 1,
             Kind::Bits | Kind::Lent(_) => 0,
         }
@@ -94,6 +100,11 @@ pub trait Operation: Sync {
     fn told_apart(&self, _lists: &Lists) -> bool {
         false
     }
+    /// A case of a first edition once more, for the operation with sorts: with a table that
+    /// lists 32 and 8 for each array that it names.
+    fn with_sorts(&self, _lists: &Lists) -> Option<(&'static dyn Operation, Lists)> {
+        None
+    }
     /// Cases for the shrinker to try beside those with parts dropped or words
     /// lowered: each has fewer rows that are no variables, or lower words.
     fn simpler(&self, _lists: &Lists) -> Vec<Lists> {
@@ -102,13 +113,16 @@ pub trait Operation: Sync {
 }
 
 /// Every operation, with how many of a hundred random cases it gets.
-pub const OPERATIONS: [(&dyn Operation, u64); 6] = [
-    (&SOURCE_WIDTHS, 20),
+pub const OPERATIONS: [(&dyn Operation, u64); 9] = [
+    (&SOURCE_WIDTHS, 15),
     (&TARGET_WIDTHS, 10),
     (&ROOTS, 5),
-    (&VALUES, 20),
-    (&CHECK, 30),
-    (&STRICT_CHECK, 15),
+    (&VALUES, 15),
+    (&CHECK, 20),
+    (&STRICT_CHECK, 10),
+    (&SOURCE_WIDTHS_WITH_SORTS, 5),
+    (&CHECK_WITH_SORTS, 10),
+    (&STRICT_CHECK_WITH_SORTS, 10),
 ];
 
 /// Two outcomes of a case that must be equal.

@@ -328,3 +328,20 @@ pub fn fenced_both(
     });
     (answer, from_first || from_second)
 }
+
+/// The same for the four lists lent to a check.
+pub fn fenced_four(
+    lists: &mut [Vec<u64>],
+    call: impl FnOnce([&mut [u64]; 4]) -> Answer,
+) -> (Answer, bool) {
+    let [a, b, c, d] = lists else {
+        unreachable!("four lists are lent")
+    };
+    let mut inner = false;
+    let (answer, outer) = fenced_both([a, b], |a, b| {
+        let (answer, strayed) = fenced_both([c, d], |c, d| call([a, b, c, d]));
+        inner = strayed;
+        answer
+    });
+    (answer, inner || outer)
+}

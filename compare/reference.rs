@@ -156,6 +156,9 @@ pub fn bad_root(lists: &Lists) -> Option<Answer> {
     })
 }
 
+/// So many lists are read in a first edition.
+const FIRST_LISTS: usize = at::SORTS;
+
 /// What `check_sliver_lowering` takes, made of words.
 pub struct Sliver {
     source: Vec<ExtNode>,
@@ -179,7 +182,7 @@ impl Sliver {
         Sliver {
             source: ext_nodes(&lists[at::SOURCE]),
             source_bits: flags(&lists[at::SOURCE_BITS]),
-            words: (0..at::LENT).map(words).collect(),
+            words: (0..FIRST_LISTS).map(words).collect(),
             target: dag_nodes(&lists[at::TARGET]),
             target_bits: flags(&lists[at::TARGET_BITS]),
         }

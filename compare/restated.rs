@@ -1,17 +1,18 @@
 //! Check once more, after the scope's text and without the published Rust: the
 //! answer, and what acceptance leaves in the four lent lists. It looks only
 //! where none of 15 to 18 applies. Widths are in wellformed.rs, roots in
-//! congruence.rs, what makes two calls one function is in functions.rs, and the step
-//! that the strict check has more is in strict.rs.
+//! congruence.rs, what makes two calls one function is in functions.rs, the step that the
+//! strict check has more is in strict.rs, and the widths of arrays are in sorts.rs.
 
 use crate::check::at as place;
 use crate::functions::{Asked, Rule};
 use crate::operation::Lists;
 use crate::ours::Answer;
 use crate::rules::{answer, ACCEPTED, SOURCE, TARGET};
+use crate::sorts::{self, Edition, Sorts};
 use crate::strict::{Step, Strict};
 use crate::tags::*;
-use crate::wellformed::{at, row_widths, rows, stretch, Row};
+use crate::wellformed::{at, row_widths, rows, stretch, Memory, Row};
 
 const MAX: u64 = u64::MAX;
 
@@ -35,20 +36,40 @@ pub struct Check<'l> {
     /// Of target rows.
     pub classes: Vec<u64>,
     pub entries: Vec<u64>,
+    /// What gives arrays their shapes.
+    pub edition: Edition<'l>,
+    pub rules: Rules,
+}
+
+/// The rules that there are wrong ones of.
+#[derive(Clone, Copy)]
+pub struct Rules {
     /// Which calls are of one function.
-    pub rule: Rule,
+    pub functions: Rule,
     /// Which roots are taken.
     pub strict: Strict,
+    /// Which shape an array has.
+    pub sorts: Sorts,
+}
+
+impl Rules {
+    /// The right ones of a check, strict or not.
+    pub fn right(strict: bool) -> Rules {
+        Rules {
+            functions: Rule::Right,
+            strict: Strict::of(strict),
+            sorts: Sorts::Right,
+        }
+    }
 }
 
 /// The answer, and the four lists where it is acceptance.
 pub fn check(lists: &Lists) -> (Answer, Written) {
-    check_by(Rule::Right, Strict::No, lists)
+    check_by(Rules::right(false), lists)
 }
 
-/// The same where one rule says which calls are of one function, and another which
-/// roots are taken.
-pub fn check_by(rule: Rule, strict: Strict, lists: &Lists) -> (Answer, Written) {
+/// The same by these rules.
+pub fn check_by(rules: Rules, lists: &Lists) -> (Answer, Written) {
     let target = rows(&lists[place::TARGET], TARGET.row);
     let mut check = Check {
         source: rows(&lists[place::SOURCE], SOURCE.row),
@@ -62,8 +83,8 @@ pub fn check_by(rule: Rule, strict: Strict, lists: &Lists) -> (Answer, Written) 
         widths: Default::default(),
         classes: vec![0; target.len()],
         entries: vec![0; target.len()],
-        rule,
-        strict,
+        edition: Edition::of(lists),
+        rules,
         target,
         target_bits: &lists[place::TARGET_BITS],
         target_roots: &lists[place::TARGET_ROOTS],
@@ -80,10 +101,14 @@ pub fn check_by(rule: Rule, strict: Strict, lists: &Lists) -> (Answer, Written) 
 impl Check<'_> {
     /// Every refusal from 1 on in its order.
     fn judged(&mut self) -> Result<(), Answer> {
-        let source = row_widths(&self.source, self.source_bits.len(), self.side)
+        let memory = Memory::by(self.rules.sorts, self.side, self.edition);
+        let source = row_widths(&self.source, self.source_bits.len(), memory)
             .map_err(|row| answer(1, row, 0))?;
-        let target = row_widths(&self.target, self.target_bits.len(), &[])
+        let target = row_widths(&self.target, self.target_bits.len(), Memory::NONE)
             .map_err(|row| answer(2, row, 0))?;
+        if self.rules.sorts.step() == sorts::Step::BehindWidths {
+            self.rules.sorts.refused(self.edition).map_or(Ok(()), Err)?;
+        }
         self.widths = [source, target];
         self.strict_roots(Step::Widths)?;
         let (rows, words) = (self.source.len() as u64, self.map.len() as u64);
@@ -109,16 +134,14 @@ impl Check<'_> {
             let &[variable, array, index] = entry else {
                 return Err(answer(5, k as u64, 0));
             };
-            let again = self
-                .reads
-                .chunks(3)
-                .take(k)
-                .any(|e| e[1..] == [array, index]);
-            if at(&self.target, variable) != Some([VAR, 8, 0, 0, 0])
-                || at(&self.classes, variable) != Some(0)
-                || at(&self.widths[1], index) != Some(32)
-                || again
-            {
+            let mut before = self.reads.chunks(3).take(k);
+            let again = before.any(|e| e[1..] == [array, index]);
+            let shape = (self.rules.sorts).shape(self.edition, array, sorts::Asked::Read);
+            let fits = shape.is_some_and(|[index_width, cell]| {
+                at(&self.target, variable) == Some([VAR, cell, 0, 0, 0])
+                    && at(&self.widths[1], index) == Some(index_width)
+            });
+            if !fits || at(&self.classes, variable) != Some(0) || again {
                 return Err(answer(5, k as u64, 0));
             }
             self.classes[variable as usize] = 2;

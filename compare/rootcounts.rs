@@ -1,10 +1,10 @@
 //! What a run has met where the strict check refuses a root: which one, and what Check
 //! says about the same lists. Beside it what the accepted lowerings are to show.
 
-use crate::check::{at, CHECK};
+use crate::check::{self, at};
 use crate::features::{repeats, Named};
 use crate::functions::graph_widths;
-use crate::operation::{Feature, Lists, Operation};
+use crate::operation::{Feature, Lists};
 use crate::ours::Answer;
 use crate::tags::VAR;
 use crate::wellformed;
@@ -25,7 +25,8 @@ impl Refused<'_> {
         if answer.number != 19 {
             return None;
         }
-        let (widths, check) = (graph_widths(lists)?, CHECK.expected(lists).answer.number);
+        let expected = check::by_edition(false, lists).expected(lists);
+        let (widths, check) = (graph_widths(lists)?, expected.answer.number);
         Some(Refused {
             lists,
             answer,

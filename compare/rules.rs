@@ -1,12 +1,14 @@
-//! What the scope adds to the published Rust: the refusals 15 to 18 and 21 to
-//! 23, their order, the ceiling of widths, and what a lent list holds after each
-//! answer.
+//! What the scope adds to the published Rust: the refusals 15 to 18, 21 to 23 and 28,
+//! their order, the ceiling of widths, and what a lent list holds after each
+//! answer. Where a sort table is lent, the Rust is not asked.
 
 use crate::check::at;
 use crate::operation::{Kind, Lists};
 use crate::ours::Answer;
 use crate::reference;
+use crate::sorts::{Edition, Sorts, Step};
 use crate::tags::{TAGS, VAR};
+use crate::wellformed::{row_widths, rows, Memory};
 
 /// No row is wider.
 pub const CEILING: u64 = 4096;
@@ -156,9 +158,30 @@ pub fn widths(graph: Graph, lists: &Lists) -> (Answer, Vec<u64>) {
     graph_answer(graph, lists, added)
 }
 
-/// The first of the four rules above that applies to Check. Each is looked for
-/// in both graphs before the next.
+/// The same for source widths with sorts: after the four rules 28, then the definition
+/// over the sort table.
+pub fn widths_with_sorts(lists: &Lists) -> (Answer, Vec<u64>) {
+    let edition = Edition::of_source(lists);
+    let lent = &lists[lists.len() - 1];
+    let refusal = added(SOURCE, &lists[0], &lists[1], &[(SOURCE.number, lent)]);
+    if let Some(refusal) = refusal.or_else(|| edition.refused()) {
+        return (refusal, Vec::new());
+    }
+    let memory = Memory::of(&lists[2], edition);
+    match row_widths(&rows(&lists[0], SOURCE.row), lists[1].len(), memory) {
+        Ok(widths) => (ACCEPTED, widths),
+        Err(row) => (answer(SOURCE.number, row, 0), Vec::new()),
+    }
+}
+
+/// The first of the four rules above that applies to Check, or 28 behind them. Each is
+/// looked for in both graphs before the next.
 pub fn check(lists: &Lists) -> Option<Answer> {
+    check_by(Sorts::Right, lists)
+}
+
+/// The same where this rule says what 28 refuses, and where.
+pub fn check_by(sorts: Sorts, lists: &Lists) -> Option<Answer> {
     let graphs = [
         (SOURCE, &lists[at::SOURCE], &lists[at::SOURCE_BITS]),
         (TARGET, &lists[at::TARGET], &lists[at::TARGET_BITS]),
@@ -166,7 +189,16 @@ pub fn check(lists: &Lists) -> Option<Answer> {
     // The first lent list serves the source, the other three the target.
     let short = |place: usize| {
         let (graph, rows, _) = graphs[place.min(1)];
-        work_short(place as u64 + 1, graph, rows, &lists[at::LENT + place])
+        work_short(
+            place as u64 + 1,
+            graph,
+            rows,
+            &lists[at::lent(lists) + place],
+        )
+    };
+    let table = |step: Step| {
+        let looked_at = sorts.step() == step;
+        looked_at.then(|| sorts.refused(Edition::of(lists)))?
     };
     let mut counts = graphs
         .iter()
@@ -176,7 +208,9 @@ pub fn check(lists: &Lists) -> Option<Answer> {
     (counts.find_map(|refusal| refusal))
         .or_else(|| (0..4).find_map(short))
         .or_else(|| rows.find_map(|refusal| refusal))
+        .or_else(|| table(Step::BeforeBits))
         .or_else(|| bits.find_map(|refusal| refusal))
+        .or_else(|| table(Step::BehindBits))
 }
 
 /// 21: the first row above 64 bits.

@@ -1,16 +1,20 @@
 //! Check and the strict check without the library: the published Rust against
 //! restated.rs, over the marked cases with all their changes and over random lowerings,
-//! each without damage and as generated. Before that, wrong rules for functions and for
-//! roots must be noticed.
+//! each without damage and as generated; all of them again with a sort table, and
+//! lowerings of a second edition. Before that, wrong rules for functions, for roots and
+//! for sort tables must be noticed.
 
-use crate::check::{Check, CHECK, STRICT_CHECK};
+use crate::check::{CHECK, STRICT_CHECK};
 use crate::compare::Run;
-use crate::functions::{self, Rule};
-use crate::operation::Operation;
+use crate::functions;
+use crate::operation::{Lists, Operation};
+use crate::ours::Answer;
 use crate::random::Random;
-use crate::restated;
+use crate::restated::{self, Rules};
 use crate::rules::{self, ACCEPTED};
-use crate::strict::{self, Strict};
+use crate::sortedcheck::{CHECK_WITH_SORTS, STRICT_CHECK_WITH_SORTS};
+use crate::sorts;
+use crate::strict;
 
 /// About the most rows of a random source.
 const ROWS: usize = 24;
@@ -21,43 +25,73 @@ const SOON: u64 = 3_000;
 /// Runs the marked cases and so many random ones; false at a disagreement or
 /// where something never came.
 pub fn selftest(seed: u64, cases: u64) -> bool {
-    let mut run = Run::new(&[&CHECK, &STRICT_CHECK], false);
+    let mut run = Run::new(&CHECKS.map(|(check, _)| check), false);
     wrong_rules(seed)
-        && run.known(&CHECK)
-        && run.known(&STRICT_CHECK)
+        && CHECKS.iter().all(|&(check, _)| run.known(check))
         && (0..cases).all(|case| {
             let which = format!("random case {case} of seed {seed}");
             let random = || Random::of_case(seed, case);
-            [&CHECK, &STRICT_CHECK].into_iter().all(|of| {
-                run.answered(of, &of.undamaged(&mut random(), ROWS), ACCEPTED, &which)
-                    && run.judge(of, &of.generate(&mut random(), ROWS), || which.clone())
+            CHECKS.iter().all(|&(check, undamaged)| {
+                let damaged = check.generate(&mut random(), ROWS);
+                run.answered(check, &undamaged(&mut random()), ACCEPTED, &which)
+                    && run.judge_both(check, &damaged, || which.clone())
             })
         })
         && run.complete(cases)
 }
 
+/// Each check with its accepted lowerings.
+const CHECKS: [(&dyn Operation, fn(&mut Random) -> Lists); 4] = [
+    (&CHECK, |random| CHECK.undamaged(random, ROWS)),
+    (&STRICT_CHECK, |random| STRICT_CHECK.undamaged(random, ROWS)),
+    (&CHECK_WITH_SORTS, |random| {
+        CHECK_WITH_SORTS.undamaged(random, ROWS)
+    }),
+    (&STRICT_CHECK_WITH_SORTS, |random| {
+        STRICT_CHECK_WITH_SORTS.undamaged(random, ROWS)
+    }),
+];
+
 /// Tries every wrong rule: those for functions, those for roots on cases of the strict
-/// check, and the strict rule on cases of Check; false if one is not noticed.
+/// check, the strict rule on cases of Check, and those for sort tables on cases with one;
+/// false if one is not noticed.
 fn wrong_rules(seed: u64) -> bool {
-    let functions =
-        functions::WRONG.map(|(rule, what)| is_noticed(seed, &CHECK, (rule, Strict::No), what));
-    let roots = strict::WRONG
-        .map(|(strict, what)| is_noticed(seed, &STRICT_CHECK, (Rule::Right, strict), what));
-    let made_strict = (Rule::Right, Strict::Right);
-    let check = is_noticed(seed, &CHECK, made_strict, "roots of one bit asked in Check");
-    check && functions.into_iter().chain(roots).all(|noticed| noticed)
+    let [check, strict] = [false, true].map(Rules::right);
+    let mut wrong: Vec<(&dyn Operation, Rules, Rules, &str)> = Vec::new();
+    wrong.push((&CHECK, check, strict, "roots of one bit asked in Check"));
+    for (functions, what) in functions::WRONG {
+        wrong.push((&CHECK, check, Rules { functions, ..check }, what));
+    }
+    for (roots, what) in strict::WRONG {
+        let rules = Rules {
+            strict: roots,
+            ..strict
+        };
+        wrong.push((&STRICT_CHECK, strict, rules, what));
+    }
+    for (sorts, what) in sorts::WRONG {
+        wrong.push((&CHECK_WITH_SORTS, check, Rules { sorts, ..check }, what));
+    }
+    let noticed = wrong.into_iter().map(|(of, right, wrong, what)| {
+        let lists = |case| of.generate(&mut Random::of_case(seed, case), ROWS);
+        is_noticed(what, |case| {
+            let lists = lists(case);
+            judged(wrong, &lists) != judged(right, &lists)
+        })
+    });
+    noticed.fold(true, |all, noticed| all & noticed)
+}
+
+/// The answer by these rules.
+fn judged(rules: Rules, lists: &Lists) -> Answer {
+    let refusal = rules::check_by(rules.sorts, lists);
+    refusal.unwrap_or_else(|| restated::check_by(rules, lists).0)
 }
 
 /// Says in which random case wrong rules first give another answer than the right ones,
 /// and in how many of them they do; false if in none.
-fn is_noticed(seed: u64, check: &Check, wrong: (Rule, Strict), what: &str) -> bool {
-    let right = (Rule::Right, Strict::of(check.strict));
-    let noticed = |case: &u64| {
-        let lists = check.generate(&mut Random::of_case(seed, *case), ROWS);
-        let judged = |(rule, strict)| restated::check_by(rule, strict, &lists).0;
-        rules::check(&lists).is_none() && judged(wrong) != judged(right)
-    };
-    let cases: Vec<u64> = (0..SOON).filter(noticed).collect();
+fn is_noticed(what: &str, differs: impl Fn(u64) -> bool) -> bool {
+    let cases: Vec<u64> = (0..SOON).filter(|&case| differs(case)).collect();
     match cases.first() {
         Some(first) => println!(
             "wrong, and noticed in random case {first}, in {} of {SOON}: {what}",

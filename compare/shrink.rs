@@ -5,6 +5,7 @@
 
 use crate::operation::{Kind, Lists, Operation, Pair};
 use crate::rules::CEILING;
+use crate::sorts::ENTRY;
 use crate::tags::names_row;
 
 /// Words that others are lowered to, the lowest first.
@@ -43,6 +44,7 @@ pub fn shrink(operation: &dyn Operation, pair: Pair, lists: Lists) -> Lists {
 fn unit(kind: Kind) -> usize {
     match kind {
         Kind::Rows(size) | Kind::Entries(size) => size,
+        Kind::Sorts => ENTRY,
         _ => 1,
     }
 }
@@ -177,7 +179,7 @@ fn lower_numbers(operation: &dyn Operation, lists: &Lists, row: u64, rows: u64) 
                     .for_each(|k| lower(&mut row[k]));
             }),
             Kind::Entries(_) | Kind::Words => list.iter_mut().for_each(lower),
-            Kind::Bits | Kind::Given(_) | Kind::Lent(_) => {}
+            Kind::Bits | Kind::Given(_) | Kind::Sorts | Kind::Lent(_) => {}
         }
     }
     lowered

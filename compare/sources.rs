@@ -1,16 +1,35 @@
 //! Random sources for lowerings: rich in reads and calls, with indices that are
 //! constants, variables or computed from other reads. Calls are in signatures.rs.
 
-use crate::graphs::{Builder, Style, HIGH};
+use crate::graphs::{Builder, Chain, Style, HIGH};
 use crate::random::Random;
+use crate::shapes;
 use crate::signatures::Functions;
+use crate::sorts::Shape;
 use crate::tags::*;
+
+/// No constant to be an index is wider.
+const WIDEST: u64 = 128;
 
 /// A source of 0 to about `rows` rows, well formed.
 pub fn source(random: &mut Random, rows: usize) -> Builder<'_> {
     let style = random.pick(&[Style::Narrow, Style::Narrow, Style::Narrow, Style::Wide]);
     let rows = random.place(rows + 1);
+    filled(Builder::new(random, style, usize::MAX), rows)
+}
+
+/// The same of a second edition.
+pub fn with_sorts(random: &mut Random, rows: usize) -> Builder<'_> {
+    let style = random.pick(&[Style::Narrow, Style::Narrow, Style::Narrow, Style::Wide]);
+    let rows = random.place(rows + 1);
+    let table = shapes::table(random, style);
     let mut builder = Builder::new(random, style, usize::MAX);
+    builder.sorts = Some(table);
+    filled(builder, rows)
+}
+
+/// The builder with about so many rows.
+fn filled(mut builder: Builder<'_>, rows: usize) -> Builder<'_> {
     let mut functions = Functions::new(builder.random);
     while builder.len() < rows {
         match builder.random.below(8) {
@@ -49,25 +68,36 @@ impl Builder<'_> {
         self.len() as u64 - 1
     }
 
-    /// A row of width 32, to be an index.
+    /// A row to be an index, of 32 bits in a first edition. Some are made of a row as wide
+    /// as the array's cells, or as wide as there is room for.
     pub fn index(&mut self) {
+        let [width, cell] = self.some_shape();
+        let part = cell.min(width - 1);
         match self.random.below(8) {
-            0 => self.push(VAR, [32, 0, 0, 0]),
-            1 | 2 | 3 => self.sparse_constant(32),
-            4 | 5 => {
-                let byte = self.row_of(8);
+            0 => self.push(VAR, [width, 0, 0, 0]),
+            1 | 2 | 3 => self.index_constant(width),
+            4 | 5 if part > 0 => {
+                let value = self.row_of(part);
                 let tag = self.random.pick(&[ZERO_EXT, SIGN_EXT]);
-                self.push(tag, [byte, 24, 0, 0]);
+                self.push(tag, [value, width - part, 0, 0]);
             }
-            6 => {
-                let (word, byte) = (self.row_of(32), self.row_of(8));
-                self.push(EXTRACT, [31, 8, word, 0]);
-                self.push(CONCAT, [self.len() as u64 - 1, byte, 0, 0]);
+            6 if part > 0 => {
+                let (word, value) = (self.row_of(width), self.row_of(part));
+                self.push(EXTRACT, [width - 1, part, word, 0]);
+                self.push(CONCAT, [self.len() as u64 - 1, value, 0, 0]);
             }
             _ => {
-                let words = [self.row_of(32), self.row_of(32), 0, 0];
+                let words = [self.row_of(width), self.row_of(width), 0, 0];
                 self.push(ADD, words);
             }
+        }
+    }
+
+    /// A constant to be an index; the widest have so many bits that it is a variable then.
+    fn index_constant(&mut self, width: u64) {
+        match width {
+            0..=WIDEST => self.sparse_constant(width as usize),
+            _ => self.push(VAR, [width, 0, 0, 0]),
         }
     }
 
@@ -83,28 +113,37 @@ impl Builder<'_> {
         self.push(CONST, [start as u64, width as u64, 0, 0]);
     }
 
-    /// A Select, often of the same array, over no to three pairs.
+    /// A Select, often of the same array, over no to three pairs; another row where no
+    /// array can be read.
     pub fn read(&mut self) {
-        let array = self.random.pick(&[7, 7, 7, 7, 0, u64::MAX]);
-        let index = self.some_index();
+        let array = match self.sorts {
+            None => Some(self.random.pick(&[7, 7, 7, 7, 0, u64::MAX])),
+            Some(_) => self.listed(),
+        };
+        let Some(array) = array else {
+            return self.core_row();
+        };
+        let shape = self.shape(array);
+        let index = self.some_index(shape[0]);
+        let chains = self.chains_of(shape);
         let (start, count) = match self.random.below(6) {
             0 | 1 => (self.start_of_none(), 0),
-            2 if !self.chains.is_empty() => {
-                let (start, count) = self.random.pick(&self.chains);
+            2 if !chains.is_empty() => {
+                let Chain { start, count, .. } = self.random.pick(&chains);
                 let skip = self.random.below(count + 1);
                 (start + 2 * skip, count - skip)
             }
-            _ => self.pairs(index),
+            _ => self.pairs(index, shape),
         };
         self.push(SELECT, [array, index, start, count]);
     }
 
-    /// A row to read at: an earlier one or a new constant.
-    fn some_index(&mut self) -> u64 {
+    /// A row of this width to read at: an earlier one or a new constant.
+    fn some_index(&mut self, width: u64) -> u64 {
         if !self.random.once_in(4) {
-            return self.row_of(32);
+            return self.row_of(width);
         }
-        self.sparse_constant(32);
+        self.index_constant(width);
         self.len() as u64 - 1
     }
 
@@ -115,7 +154,7 @@ impl Builder<'_> {
     }
 
     /// New pairs in the side list, some at the Select's own index row.
-    fn pairs(&mut self, index: u64) -> (u64, u64) {
+    fn pairs(&mut self, index: u64, shape: Shape) -> (u64, u64) {
         if self.random.once_in(8) {
             self.side.push(u64::MAX);
         }
@@ -125,13 +164,17 @@ impl Builder<'_> {
             let at = if self.random.once_in(5) {
                 index
             } else {
-                self.some_index()
+                self.some_index(shape[0])
             };
-            pairs.extend([at, self.row_of(8)]);
+            pairs.extend([at, self.row_of(shape[1])]);
         }
         let start = self.side.len() as u64;
         self.side.extend(pairs);
-        self.chains.push((start, count));
+        self.chains.push(Chain {
+            start,
+            count,
+            shape,
+        });
         (start, count)
     }
 }

@@ -9,6 +9,7 @@ use crate::misfits;
 use crate::operation::{Kind, Lists};
 use crate::random::Random;
 use crate::rules::{SOURCE, TARGET};
+use crate::sorts::{Edition, Shape, ENTRY, FIRST};
 use crate::tags::*;
 use crate::wellformed;
 use crate::widen;
@@ -131,23 +132,39 @@ fn bend_table(random: &mut Random, lists: &mut Lists, table: usize, size: usize)
     }
 }
 
-/// A new variable with an entry that no row reaches, in one of the tables.
+/// A new variable with an entry that no row reaches, in one of the tables. In a second
+/// edition the array of a read is listed, if one is.
 fn dead_entry(random: &mut Random, lists: &mut Lists) {
     let indices: Vec<u64> = lists[at::READS]
         .chunks_exact(3)
         .map(|read| read[2])
         .collect();
-    let variable = misfits::append(lists, &[[VAR, 8, 0, 0]]);
+    let (array, [index_width, cell]) = some_array(random, lists);
+    let variable = misfits::append(lists, &[[VAR, cell, 0, 0]]);
     if random.once_in(2) {
         let start = lists[at::ARGUMENTS].len() as u64;
         let count = random.below(2).min(start);
         lists[at::CALLS].extend([variable, 9, start - count, count]);
     } else if let Some(index) = some(random, &indices) {
-        lists[at::READS].extend([variable, 8, index]);
+        lists[at::READS].extend([variable, array, index]);
     } else {
-        let index = misfits::append(lists, &[[VAR, 32, 0, 0]]);
-        lists[at::READS].extend([variable, 8, index]);
+        let index = misfits::append(lists, &[[VAR, index_width, 0, 0]]);
+        lists[at::READS].extend([variable, array, index]);
     }
+}
+
+/// An array that a dead entry can name, with its shape.
+fn some_array(random: &mut Random, lists: &Lists) -> (u64, Shape) {
+    let listed: Vec<(u64, Shape)> = match Edition::of(lists) {
+        Edition::First => Vec::new(),
+        Edition::Second(table) => {
+            let entries = table.chunks_exact(ENTRY);
+            entries
+                .map(|entry| (entry[0], [entry[1], entry[2]]))
+                .collect()
+        }
+    };
+    some(random, &listed).unwrap_or((8, FIRST))
 }
 
 /// A target root dropped, doubled, exchanged, changed or added.

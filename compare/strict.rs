@@ -79,7 +79,7 @@ impl Check<'_> {
     /// 19 behind the step where the rule has it: the first root of the source that is no
     /// row of one bit, with detail 1; if there is none, the first of the target, with 2.
     pub fn strict_roots(&self, step: Step) -> Result<(), Answer> {
-        if !self.strict.looks_after(step) {
+        if !self.rules.strict.looks_after(step) {
             return Ok(());
         }
         let [source, target] = &self.widths;
@@ -87,7 +87,7 @@ impl Check<'_> {
             (1, self.source_roots, source),
             (2, self.target_roots, target),
         ];
-        match self.strict {
+        match self.rules.strict {
             Strict::TargetFirst => graphs.reverse(),
             Strict::Exchanged => (graphs[0].0, graphs[1].0) = (2, 1),
             Strict::SourceAlone => graphs.truncate(1),
@@ -95,10 +95,10 @@ impl Check<'_> {
             _ => {}
         }
         for (detail, roots, widths) in graphs {
-            let refused = |&root: &u64| self.strict.refuses(at(widths, root));
+            let refused = |&root: &u64| self.rules.strict.refuses(at(widths, root));
             let place = roots.iter().position(refused);
             match place {
-                Some(place) if place == 0 || self.strict != Strict::FirstAlone => {
+                Some(place) if place == 0 || self.rules.strict != Strict::FirstAlone => {
                     return Err(answer(19, place as u64, detail));
                 }
                 _ => {}

@@ -1,6 +1,6 @@
 //! What a run has met so far: answers, tags, features, edge words, rows at the
-//! ceiling, functions told apart, roots of another width. It prints the counts and says
-//! whether anything that must come is missing.
+//! ceiling, functions told apart, roots of another width, sort tables. It prints the counts
+//! and says whether anything that must come is missing.
 
 use crate::ceilingcounts::CeilingCounts;
 use crate::check::{CHECK, STRICT_CHECK};
@@ -9,6 +9,8 @@ use crate::operation::{Feature, Kind, Lists, Operation};
 use crate::ours::Answer;
 use crate::rootcounts::RootCounts;
 use crate::rules::ACCEPTED;
+use crate::sortcounts::SortCounts;
+use crate::sortedcheck::{CHECK_WITH_SORTS, STRICT_CHECK_WITH_SORTS};
 
 /// Words from here on are near 2^64 - 1.
 const HIGH: u64 = u64::MAX - 3;
@@ -53,12 +55,23 @@ struct Counts {
     functions: Option<FunctionCounts>,
     /// In the strict check.
     roots: Option<RootCounts>,
+    /// In operations with a sort table.
+    sorts: Option<SortCounts>,
 }
 
 impl Tally {
     pub fn new(operations: &[&'static dyn Operation]) -> Tally {
         let operations = operations.iter().copied().map(Counts::new).collect();
         Tally { operations }
+    }
+
+    /// Does the run have this operation?
+    pub fn has(&self, operation: &dyn Operation) -> bool {
+        let mut numbers = self
+            .operations
+            .iter()
+            .map(|counts| counts.operation.number());
+        numbers.any(|number| number == operation.number())
     }
 
     fn of(&mut self, operation: &dyn Operation) -> &mut Counts {
@@ -82,6 +95,8 @@ impl Tally {
         counts.ceiling.count(lists, answer, told_apart);
         let roots = counts.roots.iter_mut();
         roots.for_each(|roots| roots.count(lists, answer));
+        let sorts = counts.sorts.iter_mut();
+        sorts.for_each(|sorts| sorts.count(lists, answer));
         if let (Kind::Rows(row), true) = (operation.lists()[0].1, operation.tags() > 0) {
             counts.count_tags(row, &lists[0], answer);
         }
@@ -114,8 +129,9 @@ impl Tally {
 impl Counts {
     fn new(operation: &'static dyn Operation) -> Counts {
         let fields = operation.lists().iter().map(|(_, kind)| kind.fields());
-        let strict = operation.number() == STRICT_CHECK.number();
-        let calls = strict || operation.number() == CHECK.number();
+        let number = operation.number();
+        let strict = [STRICT_CHECK.number(), STRICT_CHECK_WITH_SORTS.number()].contains(&number);
+        let calls = strict || [CHECK.number(), CHECK_WITH_SORTS.number()].contains(&number);
         Counts {
             operation,
             answers: [0; 32],
@@ -128,6 +144,7 @@ impl Counts {
             ceiling: CeilingCounts::new(operation),
             functions: calls.then(FunctionCounts::default),
             roots: strict.then(RootCounts::default),
+            sorts: SortCounts::new(operation),
         }
     }
 
@@ -175,6 +192,7 @@ impl Counts {
         self.ceiling.print();
         self.functions.iter().for_each(FunctionCounts::print);
         self.roots.iter().for_each(RootCounts::print);
+        self.sorts.iter().for_each(SortCounts::print);
         let least = |counts: &[u64]| counts.iter().min().copied().unwrap_or(0);
         let high = self.high.iter().flatten().copied().collect::<Vec<u64>>();
         println!(
@@ -221,7 +239,9 @@ impl Counts {
         }
         let functions = self.functions.iter().flat_map(FunctionCounts::due);
         let roots = self.roots.iter().flat_map(RootCounts::due);
-        for (count, what) in self.ceiling.due().into_iter().chain(functions).chain(roots) {
+        let sorts = self.sorts.iter().flat_map(SortCounts::due);
+        let counts = self.ceiling.due().into_iter().chain(functions);
+        for (count, what) in counts.chain(roots).chain(sorts) {
             due(count, what);
         }
         for tag in 0..self.operation.tags() {

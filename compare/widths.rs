@@ -2,11 +2,13 @@
 
 use crate::ceilingcases;
 use crate::damage;
+use crate::editions;
 use crate::graphs;
 use crate::operation::{Kind, Lists, Operation, Outcome};
 use crate::ours::{self, Answer};
 use crate::random::Random;
 use crate::rules::{self, Graph, SOURCE, TARGET};
+use crate::sortedwidths::{self, SOURCE_WIDTHS_WITH_SORTS};
 use crate::widen;
 
 pub struct Widths(Graph);
@@ -71,6 +73,11 @@ impl Operation for Widths {
         } else {
             ceilingcases::targets()
         }
+    }
+
+    fn with_sorts(&self, lists: &Lists) -> Option<(&'static dyn Operation, Lists)> {
+        let sorted = || editions::sorted(lists, sortedwidths::SORTS);
+        (self.is_source()).then(|| (&SOURCE_WIDTHS_WITH_SORTS as &dyn Operation, sorted()))
     }
 
     /// A well-formed graph, then none to three damages.
