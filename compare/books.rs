@@ -3,22 +3,21 @@
 //! the expected one. The library's sections and verdicts are held to the scope on the
 //! same books.
 
-use std::collections::BTreeMap;
 use std::io::{ErrorKind, Read, Result, Write};
 use std::process::{Child, Command, Stdio};
 use std::thread;
 use std::time::Duration;
 
-use crate::book::{self, Fault, Shape, LONGEST, SECTIONS};
+use crate::book::{self, LONGEST};
+use crate::bookcounts::{self, BookCounts};
 use crate::bookdamage;
 use crate::changes;
 use crate::check::{Check, CHECK, STRICT_CHECK};
-use crate::functioncounts;
 use crate::judged;
 use crate::operation::{Lists, Operation};
-use crate::ours::Answer;
 use crate::random::Random;
-use crate::rules::{self, ACCEPTED};
+use crate::rules::ACCEPTED;
+use crate::sortedcheck::CHECK_WITH_SORTS;
 use crate::strictcases;
 use crate::tally::nothing_missing;
 
@@ -30,6 +29,8 @@ const PAUSES: usize = 16;
 
 struct Run<'a> {
     programs: [Program<'a>; 2],
+    /// The answers about section 12.
+    sections: BookCounts,
     whole: u64,
     pieces: u64,
 }
@@ -39,7 +40,7 @@ struct Program<'a> {
     check: &'static Check,
     path: &'a str,
     /// By what the expected line says.
-    came: BTreeMap<String, u64>,
+    came: BookCounts,
 }
 
 /// Gives the programs the known cases with their changes and so many random
@@ -49,10 +50,11 @@ pub fn books(seed: u64, cases: u64, verdict: &str, strict: &str) -> bool {
     let program = |(check, path)| Program {
         check,
         path,
-        came: BTreeMap::new(),
+        came: BookCounts::default(),
     };
     let mut run = Run {
         programs: [(&CHECK, verdict), (&STRICT_CHECK, strict)].map(program),
+        sections: BookCounts::default(),
         whole: 0,
         pieces: 0,
     };
@@ -75,7 +77,7 @@ pub fn books(seed: u64, cases: u64, verdict: &str, strict: &str) -> bool {
 }
 
 /// Check's known cases and all their changes, then the strict check's small ones, and the
-/// changes of those that it accepts.
+/// changes of those that it accepts; then those with sorts and their changes.
 fn known() -> impl Iterator<Item = Lists> {
     let cases = CHECK.known().into_iter().map(|(lists, _)| lists);
     let small = || strictcases::small().into_iter();
@@ -83,6 +85,8 @@ fn known() -> impl Iterator<Item = Lists> {
     (cases.chain(CHECK.changed()))
         .chain(small().map(|(lists, _)| lists))
         .chain(accepted.flat_map(|(lists, _)| changes::each(&lists)))
+        .chain(CHECK_WITH_SORTS.known().into_iter().map(|(lists, _)| lists))
+        .chain(CHECK_WITH_SORTS.changed())
 }
 
 impl Run<'_> {
@@ -94,6 +98,7 @@ impl Run<'_> {
             Some(_) => self.pieces += 1,
         }
         let number = self.whole + self.pieces;
+        self.sections.count_section(input);
         if let Some(what) = judged::section_differs(input) {
             println!("DISAGREEMENT in {which}: {what}");
             show(input);
@@ -106,12 +111,15 @@ impl Run<'_> {
     /// Prints what came; false if an answer never did in so many random cases.
     fn complete(&self, cases: u64) -> bool {
         self.programs.iter().for_each(Program::print);
+        println!("the library's sections");
+        self.sections.print();
         let total = self.whole + self.pieces;
         println!(
             "{total} books, {} of them in pieces, all as expected",
             self.pieces
         );
-        let missing: Vec<String> = self.programs.iter().flat_map(Program::missing).collect();
+        let mut missing = self.sections.missing(bookcounts::due_sections());
+        missing.extend(self.programs.iter().flat_map(Program::missing));
         nothing_missing(cases, &missing)
     }
 }
@@ -120,14 +128,7 @@ impl Program<'_> {
     /// Judges a book of this number in the run.
     fn judge(&mut self, input: &[u8], number: u64, pieces: Option<u64>, which: &str) -> bool {
         let expected = book::verdict(self.check, input);
-        let labels = [
-            Some(label(input, expected)),
-            edge(input, expected),
-            judged_by(self.check, input, expected),
-        ];
-        for label in labels.into_iter().flatten() {
-            *self.came.entry(label).or_default() += 1;
-        }
+        self.came.count(self.check, input, expected);
         let mut lengths = Random::of_case(input.len() as u64, number);
         if let Some(what) = judged::verdict_differs(self.check, input, &mut lengths) {
             println!("DISAGREEMENT in {which}: {what}");
@@ -154,16 +155,12 @@ impl Program<'_> {
 
     fn print(&self) {
         println!("{}, by {}", self.path, self.check.name());
-        for (label, count) in &self.came {
-            println!("  {label}: {count:8}");
-        }
+        self.came.print();
     }
 
     /// Each thing that never came.
     fn missing(&self) -> impl Iterator<Item = String> + '_ {
-        let never = due(self.check)
-            .into_iter()
-            .filter(|label| !self.came.contains_key(label));
+        let never = self.came.missing(bookcounts::due(self.check)).into_iter();
         never.map(|label| format!("{}: {label}", self.check.name()))
     }
 }
@@ -172,98 +169,6 @@ impl Program<'_> {
 fn show(input: &[u8]) {
     let bytes: Vec<String> = input.iter().map(|byte| format!("{byte:02x}")).collect();
     println!("{}", bytes.join(" "));
-}
-
-/// The answer's number, for 19 its detail, and for 20 its place with the reason.
-fn label(input: &[u8], expected: Answer) -> String {
-    match book::input_shape(input) {
-        Shape::Good if expected.number == 19 => rooted(expected.detail),
-        Shape::Good => numbered(expected.number),
-        bad => shaped(bad),
-    }
-}
-
-/// For books of good shape that are as long as a book may be, or a byte longer.
-fn edge(input: &[u8], expected: Answer) -> Option<String> {
-    let good = book::shape(input) == Shape::Good;
-    match input.len() {
-        LONGEST if expected == ACCEPTED => Some(LAST_TAKEN.to_string()),
-        LONGEST_AND_ONE if good => Some(FIRST_REFUSED.to_string()),
-        _ => None,
-    }
-}
-
-/// Who answered about a book that has good shape and is not refused by 15 to 18.
-fn judged_by(check: &Check, input: &[u8], expected: Answer) -> Option<String> {
-    if book::input_shape(input) != Shape::Good || (15..=18).contains(&expected.number) {
-        return None;
-    }
-    let held = book::held(input);
-    let above = || rules::above(check.lists(), &held).is_some();
-    if matches!(expected.number, 1 | 2) && above() {
-        return Some(by_rule(expected.number));
-    }
-    if check.told_apart(&held) {
-        return Some(by_widths(expected.number));
-    }
-    Some(BY_RUST.to_string())
-}
-
-const BY_RUST: &str = "with the Rust";
-
-fn by_rule(number: u64) -> String {
-    format!("{} above the ceiling, by the rule", numbered(number))
-}
-
-fn by_widths(number: u64) -> String {
-    format!("{}, functions told apart by widths", numbered(number))
-}
-
-const LONGEST_AND_ONE: usize = LONGEST + 1;
-const LAST_TAKEN: &str = "65,536 bytes, accepted";
-const FIRST_REFUSED: &str = "65,537 bytes, good but for that";
-
-fn numbered(number: u64) -> String {
-    format!("answer {number:2}")
-}
-
-fn rooted(detail: u64) -> String {
-    format!("{} for {detail}", numbered(19))
-}
-
-fn shaped(shape: Shape) -> String {
-    let reason = match shape {
-        Shape::Section(_, Fault::Start) => ", start",
-        Shape::Section(_, Fault::Past) => ", past the end",
-        Shape::Section(_, Fault::Words) => ", no whole words",
-        _ => "",
-    };
-    format!("answer 20 at {:2}{reason}", shape.answer().place)
-}
-
-/// What must come. 18 cannot: the programs' work lists are long enough.
-fn due(check: &Check) -> Vec<String> {
-    let mut due: Vec<String> = (0..=17).map(numbered).collect();
-    if check.strict {
-        due.extend([1, 2].map(rooted));
-    }
-    due.extend([Shape::Short, Shape::LeftOver, Shape::Long].map(shaped));
-    due.extend([LAST_TAKEN, FIRST_REFUSED, BY_RUST].map(String::from));
-    due.extend([1, 2].map(by_rule));
-    due.extend(functioncounts::DUE.map(by_widths));
-    for section in 0..SECTIONS {
-        let mut faults = vec![Fault::Start, Fault::Past];
-        if !book::is_bits(section) {
-            faults.push(Fault::Words);
-        }
-        let number = section as u64 + 1;
-        due.extend(
-            faults
-                .into_iter()
-                .map(|fault| shaped(Shape::Section(number, fault))),
-        );
-    }
-    due
 }
 
 /// What the program prints about an input.

@@ -2,8 +2,9 @@
 //! section's answer and stretch, and the verdict, strict or not, with five lent lists of
 //! any length, each whole.
 
-use crate::book::{self, Shape, SECTIONS};
-use crate::check::{at, Check};
+use crate::book;
+use crate::bookshape::{is_bits, shape, Shape, SECOND};
+use crate::check::{self, at, Check};
 use crate::operation::Operation;
 use crate::ours::{self, Answer};
 use crate::random::Random;
@@ -14,7 +15,7 @@ type Lent = Vec<Vec<u64>>;
 
 /// Numbers of sections that are asked for: all, and some that there are not.
 fn numbers() -> impl Iterator<Item = u64> {
-    (0..=SECTIONS as u64 + 1).chain([u64::MAX, 1 << 32])
+    (0..=SECOND as u64 + 1).chain([u64::MAX, 1 << 32, (1 << 32) + 12])
 }
 
 /// Nothing where the library's sections are as the scope asks, or what differs.
@@ -49,7 +50,7 @@ pub fn verdict_differs(check: &Check, input: &[u8], random: &mut Random) -> Opti
 /// The words that a book holds, all in one list.
 fn words(book: &[u8]) -> Vec<u64> {
     let lists = book::held(book);
-    let sections = (0..SECTIONS).filter(|&section| !book::is_bits(section));
+    let sections = (0..at::lent(&lists)).filter(|&section| !is_bits(section));
     sections
         .flat_map(|section| lists[section].clone())
         .collect()
@@ -57,7 +58,7 @@ fn words(book: &[u8]) -> Vec<u64> {
 
 /// Lists as long as the book needs them, longer, or now and then shorter.
 fn lists(input: &[u8], random: &mut Random) -> Lent {
-    let needs: Vec<usize> = match book::shape(input) {
+    let needs: Vec<usize> = match shape(input) {
         Shape::Good => {
             let lists = book::held(input);
             let graphs = lists[at::lent(&lists)..].iter().map(Vec::len);
@@ -77,14 +78,14 @@ fn lists(input: &[u8], random: &mut Random) -> Lent {
 /// The answer and the five lists that the scope asks for.
 fn expected(check: &Check, input: &[u8], lent: &Lent) -> (Answer, Lent) {
     let zeros = || lent.iter().map(|list| vec![0; list.len()]).collect();
-    let shape = book::shape(input);
+    let shape = shape(input);
     if shape != Shape::Good {
         return (shape.answer(), zeros());
     }
     let mut lists = book::held(input);
     lists.truncate(at::lent(&lists));
     lists.extend(lent[..4].iter().cloned());
-    let checked = check.expected(&lists);
+    let checked = check::by_edition(check.strict, &lists).expected(&lists);
     if [15, 18].contains(&checked.answer.number) {
         return (checked.answer, lent.clone());
     }

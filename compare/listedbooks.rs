@@ -1,7 +1,8 @@
 //! The books of the fixed list: each place of 20 but 13, each number of Check
 //! that a book can get, and sections by their numbers.
 
-use crate::book::{self, Draft, CONTENTS, SECTIONS};
+use crate::book::{self, Draft};
+use crate::bookshape::{contents, is_bits, FIRST};
 use crate::ceilingcases;
 use crate::check::{at, CHECK};
 use crate::functioncases;
@@ -55,7 +56,7 @@ fn told_apart() -> impl Iterator<Item = Lists> {
 pub fn sections() -> Vec<(Vec<u8>, u64)> {
     let good = book::draft(&small()).bytes();
     let mut asked: Vec<(Vec<u8>, u64)> = Vec::new();
-    for number in (0..=SECTIONS as u64 + 1).chain([MAX, (1 << 32) + 1]) {
+    for number in (0..=FIRST as u64 + 1).chain([MAX, (1 << 32) + 1]) {
         asked.push((good.clone(), number));
     }
     asked.extend([0, 1].map(|number| (Vec::new(), number)));
@@ -63,19 +64,19 @@ pub fn sections() -> Vec<(Vec<u8>, u64)> {
     // 24 before 20, then each bad shape with one section or another.
     let bad = misshapen();
     asked.extend([0, 12].map(|number| (bad[bad.len() - 1].clone(), number)));
-    let numbers = (1..=SECTIONS as u64).cycle();
+    let numbers = (1..=FIRST as u64).cycle();
     asked.extend(bad.into_iter().step_by(2).zip(numbers));
     asked
 }
 
 /// The book of eleven empty bodies.
 fn empty() -> Draft {
-    book::draft(&vec![vec![]; SECTIONS])
+    book::draft(&vec![vec![]; FIRST])
 }
 
 /// Each list of another length, bits that are no whole words.
 fn small() -> Lists {
-    let mut lists: Lists = (1..=SECTIONS as u64)
+    let mut lists: Lists = (1..=FIRST as u64)
         .map(|k| (0..1 + k % 3).map(|word| 16 * k + word).collect())
         .collect();
     lists[at::SOURCE_BITS] = vec![1, 0, 1];
@@ -86,16 +87,16 @@ fn small() -> Lists {
 /// Inputs that are no books: too short; a bad section; bytes left over.
 pub fn misshapen() -> Vec<Vec<u8>> {
     let whole = empty().bytes();
-    let mut books = vec![vec![], vec![0], whole[..CONTENTS - 1].to_vec()];
+    let mut books = vec![vec![], vec![0], whole[..contents(FIRST) - 1].to_vec()];
     let starts = [177, 175, 184, 0, MAX, 176 + (1 << 32), 168];
     let lengths = [8, 1, MAX, MAX - 175, MAX - 7, 1 << 63, 16];
-    for section in 0..SECTIONS {
+    for section in 0..FIRST {
         let mut start = empty();
         start.contents[section][0] = starts[section % starts.len()];
         let mut past = empty();
         past.contents[section][1] = lengths[section % lengths.len()];
         books.extend([start.bytes(), past.bytes()]);
-        if !book::is_bits(section) {
+        if !is_bits(section) {
             books.push(part_word(section));
         }
     }
@@ -112,7 +113,7 @@ fn part_word(section: usize) -> Vec<u8> {
     let bytes = 1 + section % 7;
     let mut draft = empty();
     draft.contents[section][1] = bytes as u64;
-    draft.contents[section + 1..].fill([(CONTENTS + bytes) as u64, 0]);
+    draft.contents[section + 1..].fill([(contents(FIRST) + bytes) as u64, 0]);
     draft.bodies = vec![0; bytes];
     draft.bytes()
 }

@@ -11,8 +11,10 @@
 mod bench;
 mod bench_check;
 mod book;
+mod bookcounts;
 mod bookdamage;
 mod books;
+mod bookshape;
 mod callfeatures;
 mod callspoil;
 mod ceilingcases;

@@ -1,9 +1,11 @@
 //! Check and the strict check without the library: the published Rust against
 //! restated.rs, over the marked cases with all their changes and over random lowerings,
 //! each without damage and as generated; all of them again with a sort table, and
-//! lowerings of a second edition. Before that, wrong rules for functions, for roots and
-//! for sort tables must be noticed.
+//! lowerings of a second edition. Before that, wrong rules for functions, for roots, for
+//! sort tables and for books must be noticed.
 
+use crate::bookdamage;
+use crate::bookshape::{self, Books};
 use crate::check::{CHECK, STRICT_CHECK};
 use crate::compare::Run;
 use crate::functions;
@@ -26,7 +28,7 @@ const SOON: u64 = 3_000;
 /// where something never came.
 pub fn selftest(seed: u64, cases: u64) -> bool {
     let mut run = Run::new(&CHECKS.map(|(check, _)| check), false);
-    wrong_rules(seed)
+    (wrong_rules(seed) & wrong_books(seed))
         && CHECKS.iter().all(|&(check, _)| run.known(check))
         && (0..cases).all(|case| {
             let which = format!("random case {case} of seed {seed}");
@@ -80,6 +82,24 @@ fn wrong_rules(seed: u64) -> bool {
         })
     });
     noticed.fold(true, |all, noticed| all & noticed)
+}
+
+/// The same for wrong rules of books: the shape, and the answers about all sections.
+fn wrong_books(seed: u64) -> bool {
+    let noticed = bookshape::WRONG.map(|(wrong, what)| {
+        is_noticed(what, |case| {
+            let book = bookdamage::generate(&mut Random::of_case(seed, case));
+            let answers = |rule: Books| {
+                let shape = rule.shape(&book).answer();
+                (
+                    shape,
+                    [0, 1, 11, 12, 13].map(|number| rule.section(&book, number)),
+                )
+            };
+            answers(wrong) != answers(Books::Right)
+        })
+    });
+    noticed.into_iter().all(|noticed| noticed)
 }
 
 /// The answer by these rules.

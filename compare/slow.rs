@@ -5,8 +5,9 @@
 use std::hint::black_box;
 use std::time::Instant;
 
-use crate::book::{self, CONTENTS, LONGEST};
+use crate::book::{self, LONGEST};
 use crate::books;
+use crate::bookshape::{self, contents, Shape};
 use crate::check::{at, CHECK};
 use crate::functions::told_apart;
 use crate::operation::Lists;
@@ -17,7 +18,7 @@ use crate::tags::*;
 const MAX: u64 = u64::MAX;
 
 /// The words that a book has room for.
-const WORDS: usize = (LONGEST - CONTENTS) / 8;
+const WORDS: usize = (LONGEST - contents(bookshape::FIRST)) / 8;
 
 const ROUNDS: usize = 5;
 
@@ -44,8 +45,8 @@ fn timed(program: &str, name: &str, lists: Option<Lists>) -> bool {
     let line = book::line(book::verdict(&CHECK, &input));
     let mut good = true;
     let ours = least(|| good &= books::ask(program, &input, None).is_ok_and(|it| it == line));
-    let rust = match book::shape(&input) {
-        book::Shape::Good => {
+    let rust = match bookshape::shape(&input) {
+        Shape::Good => {
             let mut lists = book::held(&input);
             if told_apart(&lists) {
                 lists = renamed(&lists).unwrap_or(lists);
@@ -74,7 +75,7 @@ fn least(mut run: impl FnMut()) -> f64 {
 }
 
 fn no_lists() -> Lists {
-    vec![vec![]; book::SECTIONS]
+    vec![vec![]; bookshape::FIRST]
 }
 
 /// Call entries of one function whose stretches of the argument list overlap.
