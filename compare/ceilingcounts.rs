@@ -3,7 +3,7 @@
 //! apart by their widths, another rule answered; functioncounts.rs has those cases. So it
 //! is in operations with a sort table, and they count nothing here.
 
-use crate::operation::{Kind, Lists, Operation};
+use crate::operation::{Lists, Operation};
 use crate::ours::Answer;
 use crate::rules::{self, Graph, Judged, CEILING, SOURCE};
 use crate::tags::{TAGS, WIDENING};
@@ -36,10 +36,9 @@ impl CeilingCounts {
             taken: ByTag::default(),
             refused: ByTag::default(),
         };
-        let sorts = (operation.lists().iter()).any(|&(_, kind)| kind == Kind::Sorts);
-        let graphs = match sorts {
-            false => rules::graphs(operation.lists()),
-            true => Vec::new(),
+        let graphs = match operation.sorts() {
+            None => rules::graphs(operation.lists()),
+            Some(_) => Vec::new(),
         };
         CeilingCounts {
             rust: 0,

@@ -1,6 +1,7 @@
 //! The fixed list: small cases with the expected outcomes, one a line, for the
 //! program that replays them, and a few wrong lines at the end. Only rules and
-//! reference make it; the library is not asked. strictlist.rs has the strict check.
+//! reference make it; the library is not asked. strictlist.rs has the strict check,
+//! sortlist.rs what has a sort table.
 
 use std::collections::BTreeSet;
 
@@ -48,8 +49,8 @@ const WORDS: usize = 1_000;
 const BYTES: usize = 380_000;
 
 /// The numbers of the operations on books.
-const VERDICT: u64 = 6;
-const SECTION: u64 = 7;
+pub const VERDICT: u64 = 6;
+pub const SECTION: u64 = 7;
 
 /// How many random cases of an answer an operation gets.
 const WANTED: [(u64, usize); 8] = [
@@ -128,6 +129,7 @@ pub fn list(seed: u64) -> bool {
     good &= showing_edges(&mut random, &mut list);
     good &= list.add_books(&mut random);
     good &= list.add_strict(&mut random);
+    good &= list.add_sorts(&mut random);
     good &= list.add_wrong();
     list.lines.iter().for_each(|line| println!("{line}"));
     list.complete() && good
@@ -271,7 +273,7 @@ impl List {
             self.checks.push((lists.clone(), outcome.answer));
             return;
         }
-        let tags = operation.tags() > 0 && !refused;
+        let tags = counts_tags(operation) && !refused;
         if let (Kind::Rows(row), true) = (operation.lists()[0].1, tags) {
             for row in lists[0].chunks(row) {
                 self.taken.insert((operation.number(), row[0]));
@@ -320,7 +322,8 @@ impl List {
     fn complete(&self) -> bool {
         let bytes: usize = self.lines.iter().map(|line| line.len() + 1).sum();
         let words = self.lines.iter().map(|line| line.split(' ').count()).max();
-        let tags: usize = OPERATIONS.iter().map(|(of, _)| of.tags()).sum();
+        let operations = OPERATIONS.iter().filter(|(of, _)| counts_tags(*of));
+        let tags: usize = operations.map(|(of, _)| of.tags()).sum();
         eprintln!("{} lines, {bytes} bytes", self.lines.len());
         bytes < BYTES
             && words < Some(WORDS)
@@ -346,6 +349,11 @@ fn shorten(operation: &dyn Operation, lists: &mut Lists) {
     }
 }
 
+/// Must each tag be taken? With a sort table the rows but for Selects are judged as without.
+fn counts_tags(operation: &dyn Operation) -> bool {
+    operation.tags() > 0 && operation.sorts().is_none()
+}
+
 fn rows(operation: &dyn Operation, lists: &Lists) -> usize {
     match operation.lists()[0].1 {
         Kind::Rows(row) => lists[0].len() / row,
@@ -354,7 +362,7 @@ fn rows(operation: &dyn Operation, lists: &Lists) -> usize {
 }
 
 /// The place of 20; the other numbers count as one each.
-fn by_place(answer: Answer) -> u64 {
+pub fn by_place(answer: Answer) -> u64 {
     if answer.number == 20 {
         answer.place
     } else {

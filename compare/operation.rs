@@ -63,6 +63,11 @@ pub trait Operation: Sync {
     fn name(&self) -> &'static str;
     /// Name and kind of each list, in the order of the C function.
     fn lists(&self) -> &'static [(&'static str, Kind)];
+    /// The place of its sort table, if it has one.
+    fn sorts(&self) -> Option<usize> {
+        let mut kinds = self.lists().iter();
+        kinds.position(|&(_, kind)| kind == Kind::Sorts)
+    }
     /// Answer numbers that a comparison must have met.
     fn answers(&self) -> &'static [u64];
     /// So many tags must each have been accepted and refused in the first list.

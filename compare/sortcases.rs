@@ -37,6 +37,82 @@ pub fn known(strict: bool) -> Vec<Case> {
     cases
 }
 
+/// Those for the fixed list: all tables and shapes, and of the others some, the scope's
+/// traps among them: a cell width of 4,097 and a bad bit of the target beside a bad table.
+pub fn listed() -> Vec<Case> {
+    let shaped = |of: Vec<(Sorted, Answer)>| of.into_iter().step_by(3);
+    let shapes = accepted().into_iter().map(|case| (case, ACCEPTED));
+    let trap = (one_read(SIXTEEN), vec![7, 16, OVER]);
+    let cases = shapes
+        .chain([(trap, answer(1, 1, 0))])
+        .chain(shaped(missing()));
+    let mut listed: Vec<Case> = (cases.chain(shaped(of_other_widths())))
+        .map(|((parts, table), answer)| (lists(parts, table), answer))
+        .collect();
+    let tables = tables().into_iter();
+    listed.extend(tables.map(|(table, answer)| (with_table(table), answer)));
+    listed.extend(before().into_iter().skip(1).step_by(2));
+    listed.extend(behind(false).into_iter().skip(1).step_by(3));
+    distinct(listed)
+}
+
+/// Each case once.
+fn distinct(cases: Vec<Case>) -> Vec<Case> {
+    let mut distinct: Vec<Case> = Vec::new();
+    for case in cases {
+        if !distinct.contains(&case) {
+            distinct.push(case);
+        }
+    }
+    distinct
+}
+
+/// Those for short books: a read, no read, an array not listed, and bad tables, alone and
+/// beside a bad bit; a read entry that nothing reaches, listed and not listed.
+pub fn small() -> Vec<Lists> {
+    let alone = || read_alone(SIXTEEN);
+    let bad_bit = Parts {
+        target_bits: vec![2],
+        ..no_read()
+    };
+    let cases: [(Parts, &[u64]); 13] = [
+        (one_read(SIXTEEN), &[7, 16, 16]),
+        (no_read(), &[]),
+        (no_read(), &[7, 16, OVER]),
+        (one_read(SIXTEEN), &[7, 16, OVER]),
+        (one_read(SIXTEEN), &[8, 16, 16]),
+        (alone(), &[8, 16, 16]),
+        (alone(), &[7, 16, 16]),
+        (alone(), &[7, 16, 8]),
+        (no_read(), &[7, 16]),
+        (no_read(), &[7, 16, 16, 7, 16, 16]),
+        (no_read(), &[0, 0, 1]),
+        (no_read(), &[0, 1, 1, 1, 1, 0]),
+        (bad_bit, &[7]),
+    ];
+    cases
+        .map(|(parts, table)| lists(parts, table.to_vec()))
+        .into()
+}
+
+/// The same with a root of 16 bits in either graph, beside a good table and a bad one.
+pub fn rooted() -> Vec<Lists> {
+    let [source, target] = [[vec![1], vec![2]], [vec![2], vec![1]]];
+    let of = |[source_roots, target_roots]: [Vec<u64>; 2], table: &[u64]| {
+        let parts = Parts {
+            source_roots,
+            target_roots,
+            ..one_read(SIXTEEN)
+        };
+        lists(parts, table.to_vec())
+    };
+    vec![
+        of(source.clone(), &[7, 16, 16]),
+        of(target, &[7, 16, 16]),
+        of(source, &[7, 0, 16]),
+    ]
+}
+
 /// Accepted ones of which every change is tried.
 pub fn to_change() -> Vec<Lists> {
     let cases = [
@@ -69,7 +145,7 @@ pub fn sources() -> Vec<Case> {
         let lists: Lists = parts.map(|list| lists[list].clone()).into();
         (!bad_target).then_some((lists, if of_source { answer } else { ACCEPTED }))
     };
-    known(false).into_iter().filter_map(source).collect()
+    distinct(known(false).into_iter().filter_map(source).collect())
 }
 
 /// The lists of a lowering with this table, a word to spare in each lent one.

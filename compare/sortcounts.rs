@@ -3,7 +3,7 @@
 //! shape of their array.
 
 use crate::check::at;
-use crate::operation::{Kind, Lists, Operation};
+use crate::operation::{Lists, Operation};
 use crate::ours::Answer;
 use crate::rules::{CEILING, SOURCE, TARGET};
 use crate::sorts::{Edition, Shape, ENTRY, FIRST};
@@ -268,8 +268,7 @@ pub struct SortCounts {
 impl SortCounts {
     /// Those of an operation that has a sort table.
     pub fn new(operation: &dyn Operation) -> Option<SortCounts> {
-        let mut kinds = operation.lists().iter();
-        let place = kinds.position(|&(_, kind)| kind == Kind::Sorts)?;
+        let place = operation.sorts()?;
         let mut causes = TABLES.to_vec();
         if place == at::SORTS {
             causes.extend(CHECKS);

@@ -14,7 +14,7 @@ use crate::rootcounts::{Refused, CAUSES};
 use crate::strictcases;
 
 /// The number of the strict verdict.
-const STRICT_VERDICT: u64 = 9;
+pub const STRICT_VERDICT: u64 = 9;
 
 /// How many random cases each answer gets, and how many each reason.
 const WANTED: usize = 3;
