@@ -1,5 +1,6 @@
 //! Small lowerings for choices.rs: roots that relate reads, calls and variables, over
-//! functions of few bits and few reads, so that all choices can be tried.
+//! functions of few bits and few reads, so that all choices can be tried. Those of a
+//! second edition have arrays of few bits, or of more where a solver is asked.
 
 use crate::check::{self, at};
 use crate::graphs::{Builder, Style};
@@ -7,7 +8,9 @@ use crate::lowering;
 use crate::operation::Lists;
 use crate::random::Random;
 use crate::rules::TARGET;
+use crate::shapes::{self, Sort};
 use crate::signatures::Functions;
+use crate::sorts::Shape;
 use crate::tags::*;
 
 /// About the most rows of a source that is made as those of Check.
@@ -19,12 +22,25 @@ const CALLS: usize = 4;
 
 /// A random lowering that Check accepts, with its lent lists.
 pub fn lowering(random: &mut Random) -> Lists {
-    let mut lists = if random.once_in(8) {
+    let lists = if random.once_in(8) {
         lowering::accepted(random, ROWS)
     } else {
-        let (source, roots) = source(random);
+        let (source, roots) = source(random, None);
         lowering::of(source, roots)
     };
+    finished(random, lists)
+}
+
+/// The same of a second edition, with a table of this style.
+pub fn with_sorts(random: &mut Random, style: Style) -> Lists {
+    let table = shapes::table(random, style);
+    let (source, roots) = source(random, Some(table));
+    let lists = lowering::of(source, roots);
+    finished(random, lists)
+}
+
+/// The lists with idle rows now and then, and with lent lists.
+fn finished(random: &mut Random, mut lists: Lists) -> Lists {
     if random.once_in(3) {
         idle_rows(random, &mut lists[at::TARGET]);
     }
@@ -33,8 +49,9 @@ pub fn lowering(random: &mut Random) -> Lists {
 
 /// A small source, rich in reads and calls, and its roots. Some rows follow that the
 /// roots do not need.
-fn source(random: &mut Random) -> (Builder<'_>, Vec<u64>) {
+fn source(random: &mut Random, sorts: Option<Vec<Sort>>) -> (Builder<'_>, Vec<u64>) {
     let mut source = Builder::new(random, Style::Small, usize::MAX);
+    source.sorts = sorts;
     let mut functions = Functions::new(source.random);
     source.variables();
     for _ in 0..source.random.pick(&[0, 2, 4, 5, 6, 7, 8]) {
@@ -52,7 +69,8 @@ impl Builder<'_> {
     /// One to three indices, and one to four variables of any width.
     fn variables(&mut self) {
         for _ in 0..self.random.pick(&[1, 2, 2, 3]) {
-            self.push(VAR, [32, 0, 0, 0]);
+            let [index, _] = self.some_shape();
+            self.push(VAR, [index, 0, 0, 0]);
         }
         for _ in 0..self.random.pick(&[1, 2, 3, 4]) {
             self.row(VAR);
@@ -155,23 +173,38 @@ impl Builder<'_> {
     fn nested(&mut self) {
         let inner = self.of_tags(&[SELECT, CALL]);
         let width = self.widths[inner as usize];
-        if width <= 32 {
-            let index = self.added(ZERO_EXT, [inner, 32 - width, 0, 0]);
-            self.push(SELECT, [7, index, 0, 0]);
+        let Some((array, [index, _])) = self.array() else {
+            return;
+        };
+        if width <= index {
+            let index = self.added(ZERO_EXT, [inner, index - width, 0, 0]);
+            self.push(SELECT, [array, index, 0, 0]);
         }
+    }
+
+    /// Array 7, in a second edition one that is listed, with its shape; none if none is.
+    fn array(&mut self) -> Option<(u64, Shape)> {
+        let array = match self.sorts {
+            None => Some(7),
+            Some(_) => self.listed(),
+        };
+        array.map(|array| (array, self.shape(array)))
     }
 
     /// A read at a constant over a pair at another constant, whose value is a variable
     /// that needs no image.
     fn passed_over(&mut self) {
+        let Some((array, [width, cell])) = self.array() else {
+            return;
+        };
         let bits = self.bits.len() as u64;
-        self.bits.extend((0..33).map(|k| u64::from(k == 32)));
-        let index = self.added(CONST, [bits, 32, 0, 0]);
-        let at = self.added(CONST, [bits + 1, 32, 0, 0]);
-        let value = self.added(VAR, [8, 0, 0, 0]);
+        self.bits.extend((0..=width).map(|k| u64::from(k == width)));
+        let index = self.added(CONST, [bits, width, 0, 0]);
+        let at = self.added(CONST, [bits + 1, width, 0, 0]);
+        let value = self.added(VAR, [cell, 0, 0, 0]);
         let start = self.side.len() as u64;
         self.side.extend([at, value]);
-        self.push(SELECT, [7, index, start, 1]);
+        self.push(SELECT, [array, index, start, 1]);
     }
 
     /// The number of a row that is put here.

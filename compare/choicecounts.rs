@@ -1,7 +1,7 @@
 //! What a run of choices.rs has met. It prints the counts and says whether anything
 //! that must come is missing.
 
-use crate::choicefeatures::{Tried, LOWERINGS, TRIPLES};
+use crate::choicefeatures::{Showing, Tried, TRIPLES};
 use crate::open::Found;
 use crate::openlowering::{Given, Lowering};
 use crate::tally::nothing_missing;
@@ -55,6 +55,8 @@ impl Group {
 }
 
 pub struct Counts {
+    edition: &'static str,
+    features: Vec<Showing>,
     lowerings: Group,
     triples: Group,
     again: Group,
@@ -65,9 +67,13 @@ pub struct Counts {
 }
 
 impl Counts {
-    pub fn new() -> Counts {
+    /// Those of an edition, whose lowerings are to show these.
+    pub fn new(edition: &'static str, features: Vec<Showing>) -> Counts {
+        let names: Vec<&'static str> = features.iter().map(|&(name, _)| name).collect();
         Counts {
-            lowerings: Group::new("lowerings", LOWERINGS.map(|(name, _)| name)),
+            edition,
+            features,
+            lowerings: Group::new("lowerings", names),
             triples: Group::new("triples", TRIPLES.map(|(name, _)| name)),
             again: Group::new("p and q drawn anew", AGAIN),
             scans: Group::new("scans of a mapped variable", SCANS),
@@ -82,8 +88,9 @@ impl Counts {
     }
 
     pub fn lowering(&mut self, lowering: &Lowering) {
-        let shows = LOWERINGS.map(|(_, shows)| shows(lowering));
-        self.lowerings.count(shows);
+        let features = self.features.iter();
+        self.lowerings
+            .count(features.map(|(_, shows)| shows(lowering)));
     }
 
     /// A triple counts where both searches came to an end.
@@ -115,6 +122,7 @@ impl Counts {
 
     /// Prints the counts; false if something never came that must.
     pub fn complete(&self, cases: u64) -> bool {
+        println!("{}", self.edition);
         let groups = [&self.lowerings, &self.triples, &self.again, &self.scans];
         groups.iter().for_each(|group| group.print());
         println!("passed over");
@@ -122,7 +130,10 @@ impl Counts {
         println!("  triples with too many choices: {}", self.too_big);
         let (lowerings, triples) = (self.lowerings.total, self.triples.total);
         println!("{lowerings} lowerings, {triples} triples, all as the statement says");
-        let missing: Vec<String> = groups.iter().flat_map(|group| group.missing()).collect();
+        let missing = groups.iter().flat_map(|group| group.missing());
+        let missing: Vec<String> = missing
+            .map(|what| format!("{}: {what}", self.edition))
+            .collect();
         nothing_missing(cases, &missing)
     }
 }

@@ -1,11 +1,14 @@
 //! What the lowerings and the triples of values of choices.rs are to show: a run that
 //! never met one of these has not tried the statement.
 
+use std::collections::BTreeSet;
+
 use crate::callfeatures::{arguments, call_pairs, named_pairs};
 use crate::check::at;
 use crate::features::reads;
 use crate::open::{Found, Searched};
 use crate::openlowering::Lowering;
+use crate::sorts::{Shape, ENTRY, FIRST};
 use crate::tags::*;
 
 /// A triple of values with what was found.
@@ -34,8 +37,11 @@ impl Tried<'_> {
     }
 }
 
+/// A name, and whether a lowering shows what it names.
+pub type Showing = (&'static str, fn(&Lowering) -> bool);
+
 /// Of lowerings.
-pub const LOWERINGS: [(&str, fn(&Lowering) -> bool); 18] = [
+pub const LOWERINGS: [Showing; 18] = [
     ("no source root", |of| of.roots.is_empty()),
     ("no root in either graph", |of| {
         of.lists[at::TARGET_ROOTS].is_empty()
@@ -91,6 +97,43 @@ pub const LOWERINGS: [(&str, fn(&Lowering) -> bool); 18] = [
     }),
 ];
 
+/// Of lowerings of a second edition, beside these.
+pub const SORTED: [Showing; 9] = [
+    ("an empty sort table", |of| of.lists[at::SORTS].is_empty()),
+    ("an array listed that no row names", |of| {
+        let named: Vec<u64> = of.reads().map(|(_, row)| row[1]).collect();
+        let mut entries = of.lists[at::SORTS].chunks_exact(ENTRY);
+        entries.any(|entry| !named.contains(&entry[0]))
+    }),
+    ("a read below a root at one bit, a cell of one bit", |of| {
+        of.shapes().contains(&[1, 1])
+    }),
+    ("the same, three bits each", |of| {
+        of.shapes().contains(&[3, 3])
+    }),
+    ("the same, 16 bits, a cell of fewer", |of| {
+        of.shapes()
+            .iter()
+            .any(|shape| shape[0] == 16 && shape[1] < 16)
+    }),
+    ("the same, 32 and 8", |of| of.shapes().contains(&FIRST)),
+    ("reads of two index widths below roots", |of| {
+        of.shapes()
+            .iter()
+            .any(|one| of.shapes().iter().any(|other| one[0] != other[0]))
+    }),
+    ("reads of two cell widths below roots", |of| {
+        of.shapes()
+            .iter()
+            .any(|one| of.shapes().iter().any(|other| one[1] != other[1]))
+    }),
+    ("two arrays of one shape below roots", |of| {
+        let arrays: BTreeSet<u64> = of.arrays().collect();
+        let shapes: BTreeSet<Shape> = of.shapes().into_iter().collect();
+        shapes.len() < arrays.len()
+    }),
+];
+
 /// Are there two calls of one number and count whose widths, the result's before the
 /// arguments', pass a test?
 fn told_apart(of: &Lowering, test: fn(&[usize], &[usize]) -> bool) -> bool {
@@ -128,7 +171,7 @@ pub const TRIPLES: [(&str, fn(&Tried) -> bool); 20] = [
     ("closed, by all assignments too", |of| {
         of.plainly == Found::Closed
     }),
-    ("a byte of an array chosen", |of| {
+    ("a cell of an array chosen", |of| {
         of.source.chose(|row| of.lowering.source.tag(row) == SELECT)
     }),
     ("a result of a function chosen", |of| {

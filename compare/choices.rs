@@ -1,14 +1,15 @@
 //! The statement that source and target leave the same choices, tried on the marked
-//! lowerings and on small random ones, each with several triples of values: u on the
-//! mapped source variables, p on the unmapped ones, q on the target's of class 0. Where
-//! the strict check accepts, also with roots that are true at one bit alone.
+//! lowerings and on small random ones, of either edition, each with several triples of
+//! values: u on the mapped source variables, p on the unmapped ones, q on the target's of
+//! class 0. Where the strict check accepts, also with roots that are true at one bit alone.
 
-use crate::check::CHECK;
+use crate::check::by_edition;
 use crate::choicecases;
 use crate::choicecounts::Counts;
-use crate::choicefeatures::Tried;
+use crate::choicefeatures::{Showing, Tried, LOWERINGS, SORTED};
 use crate::choicevalues::{draw, redraw};
 use crate::functioncases;
+use crate::graphs::Style;
 use crate::marked;
 use crate::open::Found;
 use crate::openlowering::{accepted, too_wide, Given, Lowering};
@@ -16,6 +17,7 @@ use crate::operation::Lists;
 use crate::plain::ones;
 use crate::random::Random;
 use crate::show;
+use crate::sortcases;
 use crate::statement::{Stated, Statement, WRONG};
 
 /// So many u are drawn for each random lowering, and for each marked one.
@@ -28,34 +30,63 @@ const SOON: u64 = 3_000;
 /// A mapped variable of at most this width can have all its values tried.
 const SCANNED: usize = 3;
 
-/// Tries the statement on the marked lowerings and on so many random ones, after
-/// wrong ones were noticed; false at a disagreement or where something never came.
+/// Where lowerings come from.
+struct Edition {
+    name: &'static str,
+    lowering: fn(&mut Random) -> Lists,
+    marked: fn() -> Vec<Lists>,
+    /// What they are to show, beside what those of each edition are.
+    features: &'static [Showing],
+}
+
+const EDITIONS: [Edition; 2] = [
+    Edition {
+        name: "first edition",
+        lowering: choicecases::lowering,
+        marked: || [marked::accepted(), functioncases::to_change()].concat(),
+        features: &[],
+    },
+    Edition {
+        name: "second edition",
+        lowering: |random| choicecases::with_sorts(random, Style::Small),
+        marked: sortcases::to_change,
+        features: &SORTED,
+    },
+];
+
+/// Tries the statement on the marked lowerings and on so many random ones of each edition,
+/// after wrong ones were noticed; false at a disagreement or where something never came.
 pub fn choices(seed: u64, cases: u64) -> bool {
-    println!("seed {seed}, the marked lowerings and {cases} random ones");
-    if !(WRONG.iter()).all(|&(wrong, what)| is_noticed(seed, wrong, what)) {
-        return false;
-    }
-    let mut counts = Counts::new();
-    let accepted = marked::accepted().into_iter();
-    let mut marked = (0..).zip(accepted.chain(functioncases::to_change()));
+    println!("seed {seed}, the marked lowerings and {cases} random ones of each edition");
+    let noticed = |edition: &Edition| {
+        let mut wrong = WRONG.iter();
+        wrong.all(|&(wrong, what)| is_noticed(seed, edition, wrong, what))
+    };
+    EDITIONS.iter().all(noticed) && EDITIONS.iter().all(|edition| tried(seed, cases, edition))
+}
+
+/// The same for one edition.
+fn tried(seed: u64, cases: u64, edition: &Edition) -> bool {
+    let mut counts = Counts::new(edition.name, [&LOWERINGS, edition.features].concat());
+    let mut marked = (0..).zip((edition.marked)());
     let good = marked.all(|(case, lists)| {
         let which = format!("marked lowering {case}");
         let mut random = Random::of_case(seed, case);
         judge(&mut counts, &lists, &mut random, MARKED_DRAWS, &which)
     }) && (0..cases).all(|case| {
-        let which = format!("random case {case} of seed {seed}");
+        let which = format!("random case {case} of seed {seed}, {}", edition.name);
         let mut random = Random::of_case(seed, case);
-        let lists = choicecases::lowering(&mut random);
+        let lists = (edition.lowering)(&mut random);
         judge(&mut counts, &lists, &mut random, DRAWS, &which)
     });
     good && counts.complete(cases)
 }
 
 /// Says in which random case a wrong statement is first noticed; false if in none.
-fn is_noticed(seed: u64, wrong: Statement, what: &str) -> bool {
+fn is_noticed(seed: u64, edition: &Edition, wrong: Statement, what: &str) -> bool {
     let noticed = |case: &u64| {
         let mut random = Random::of_case(seed, *case);
-        let lists = accepted(&choicecases::lowering(&mut random));
+        let lists = accepted(&(edition.lowering)(&mut random));
         let Some(lists) = lists.filter(|lists| !too_wide(lists)) else {
             return false;
         };
@@ -68,8 +99,14 @@ fn is_noticed(seed: u64, wrong: Statement, what: &str) -> bool {
     };
     let first = (0..SOON).find(noticed);
     match first {
-        Some(case) => println!("wrong, and noticed in random case {case}: {what}"),
-        None => println!("wrong, but not noticed in {SOON} random cases: {what}"),
+        Some(case) => println!(
+            "wrong, and noticed in random case {case}, {}: {what}",
+            edition.name
+        ),
+        None => println!(
+            "wrong, but not noticed in {SOON} random cases, {}: {what}",
+            edition.name
+        ),
     }
     first.is_some()
 }
@@ -90,7 +127,7 @@ fn judge(
 ) -> bool {
     let Some(after) = accepted(lists) else {
         println!("DISAGREEMENT in {which}: Check must accept, each variable in its class");
-        print!("{}", show::input(&CHECK, lists));
+        print!("{}", show::input(by_edition(false, lists), lists));
         return false;
     };
     if too_wide(&after) {
@@ -100,7 +137,7 @@ fn judge(
     let lowering = Lowering::new(after);
     if lowering.strict != lowering.one_bit_roots() {
         println!("DISAGREEMENT in {which}: the strict check must accept roots of one bit alone");
-        print!("{}", show::input(&CHECK, lists));
+        print!("{}", show::input(by_edition(false, lists), lists));
         return false;
     }
     counts.lowering(&lowering);
@@ -208,7 +245,8 @@ impl<'j> Judge<'j> {
     /// Prints a disagreement. Always false.
     fn report(&self, tried: &[([Found; 6], Given)]) -> bool {
         println!("DISAGREEMENT, found in {}:", self.which);
-        print!("{}", show::input(&CHECK, &self.lowering.lists));
+        let lists = &self.lowering.lists;
+        print!("{}", show::input(by_edition(false, lists), lists));
         for ([source, target, plainly, strict @ ..], given) in tried {
             if self.strict.is_some() {
                 println!("with strict roots the next three are {strict:?}");

@@ -23,6 +23,10 @@ pub enum Found {
 pub trait Meaning {
     /// A row's value by those of the rows before it; none if it is to be chosen.
     fn value(&self, row: usize, values: &[u64]) -> Option<u64>;
+    /// May this value be chosen for a row? Only wrong statements leave some out.
+    fn allows(&self, _row: usize, _value: u64) -> bool {
+        true
+    }
     /// The row's value has been chosen; from here on it counts.
     fn choose(&mut self, _row: usize, _values: &[u64]) {}
     /// The last choice counts no more.
@@ -111,6 +115,9 @@ impl Search<'_> {
         }
         self.chosen[row] = true;
         for value in 0..=ones(self.plan.widths[row]) {
+            if !self.meaning.allows(row, value) {
+                continue;
+            }
             self.values[row] = value;
             self.meaning.choose(row, &self.values);
             if self.with(place, value)? {

@@ -6,7 +6,9 @@ use crate::openrows::Graph;
 use crate::operation::Lists;
 use crate::reference::sizes;
 use crate::rules::{ACCEPTED, SOURCE, TARGET};
+use crate::sorts::{Edition, Shape};
 use crate::tags::*;
+use crate::wellformed::Row;
 
 const MAX: u64 = u64::MAX;
 
@@ -40,8 +42,9 @@ pub struct Given {
     pub target: Vec<u64>,
 }
 
-/// The lists after the library's Check, if it accepts them, and each variable of the
-/// target has class 1 if it is a source variable's image, else class 0, 4 or 5.
+/// The lists after the library's Check, if it accepts them, each variable of the target
+/// has class 1 if it is a source variable's image, else class 0, 4 or 5, and each Select
+/// has the widths of its array.
 pub fn accepted(lists: &Lists) -> Option<Lists> {
     let outcome = by_edition(false, lists).ours(lists);
     let after = outcome.lists;
@@ -57,7 +60,17 @@ pub fn accepted(lists: &Lists) -> Option<Lists> {
     let target = after[at::TARGET].chunks_exact(TARGET.row);
     let mut variables = target.enumerate().filter(|(_, words)| words[0] == VAR);
     let good = variables.all(|(row, _)| expected(row, after[classes][row]));
-    good.then_some(after)
+    (good && shaped(&after)).then_some(after)
+}
+
+/// Has each Select a row of its array's index width to read at, and its cell width, by the
+/// widths that Check left?
+fn shaped(lists: &Lists) -> bool {
+    let (edition, widths) = (Edition::of(lists), &lists[at::lent(lists)]);
+    let mut rows = lists[at::SOURCE].chunks_exact(SOURCE.row).zip(widths);
+    rows.all(|(row, &width)| {
+        row[0] != SELECT || edition.shape(row[1]) == Some([widths[row[2] as usize], width])
+    })
 }
 
 /// Has a graph of these accepted lists a row above 64 bits?
@@ -121,5 +134,26 @@ impl Lowering {
     pub fn below_roots(&self) -> impl Iterator<Item = usize> {
         let below = self.source.shape.reach(&self.roots);
         (0..below.len()).filter(move |&row| below[row])
+    }
+
+    /// The Selects of the source, each with its row's number.
+    pub fn reads(&self) -> impl Iterator<Item = (usize, &Row)> {
+        let rows = self.source.rows.iter().enumerate();
+        rows.filter(|(_, row)| row[0] == SELECT)
+    }
+
+    /// The arrays that are read below the roots.
+    pub fn arrays(&self) -> impl Iterator<Item = u64> + '_ {
+        let below: Vec<usize> = self.below_roots().collect();
+        let reads = self.reads().filter(move |(row, _)| below.contains(row));
+        reads.map(|(_, row)| row[1])
+    }
+
+    /// Their shapes.
+    pub fn shapes(&self) -> Vec<Shape> {
+        let edition = Edition::of(&self.lists);
+        self.arrays()
+            .filter_map(|array| edition.shape(array))
+            .collect()
     }
 }

@@ -1,4 +1,4 @@
-//! The meaning of a source's rows in a search: the bytes of arrays and the results of
+//! The meaning of a source's rows in a search: the cells of arrays and the results of
 //! functions are chosen when a row first needs them.
 
 use crate::open::Meaning;
@@ -16,7 +16,7 @@ type Symbol = (u64, Option<usize>);
 #[derive(PartialEq, Eq)]
 enum Cell {
     /// Array and index.
-    Byte(Symbol, u64),
+    Cell(Symbol, u64),
     /// A function with its result width, and each argument's width and value: calls
     /// of other counts or widths are of another function. Wrong statements have 0 for
     /// the widths.
@@ -76,7 +76,12 @@ impl<'g> Interpretation<'g> {
     fn cell(&self, row: usize, values: &[u64]) -> Cell {
         let (symbol, words) = (self.symbol(row), self.graph.rows[row]);
         if words[0] == SELECT {
-            return Cell::Byte(symbol, values[words[2] as usize]);
+            let index = words[2] as usize;
+            let seen = match self.statement {
+                Statement::HalfIndices => ones(self.graph.shape.widths[index]) >> 1,
+                _ => u64::MAX,
+            };
+            return Cell::Cell(symbol, values[index] & seen);
         }
         let argument = |row: u64| (self.argument_width(row), values[row as usize]);
         let arguments = arguments(words, self.side).map(argument).collect();
@@ -111,6 +116,12 @@ impl Meaning for Interpretation<'_> {
             CALL => self.kept(row, values),
             _ => Some(self.graph.core(row, values)),
         }
+    }
+
+    fn allows(&self, row: usize, value: u64) -> bool {
+        let half = ones(self.graph.shape.widths[row]) >> 1;
+        let is_read = self.graph.tag(row) == SELECT;
+        self.statement != Statement::HalfCells || !is_read || value <= half
     }
 
     fn choose(&mut self, row: usize, values: &[u64]) {

@@ -34,7 +34,7 @@ fn shape(random: &mut Random, style: Style, table: &[Sort]) -> Shape {
     let [one, other] = [1 + random.below(70), 1 + random.below(70)];
     let [small, few] = [1 + random.below(3), 1 + random.below(3)];
     if style == Style::Small {
-        return [small, few];
+        return random.pick(&[[small, few], [small, few], [small, few], [16, few], FIRST]);
     }
     if let ([.., [_, index, cell]], true) = (table, random.once_in(3)) {
         let (index, cell) = (*index, *cell);

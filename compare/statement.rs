@@ -24,6 +24,8 @@ pub enum Statement {
     OwnBytes,
     OwnResults,
     OneArray,
+    HalfIndices,
+    HalfCells,
     OneFunction,
     AnyResult,
     AnyArguments,
@@ -36,14 +38,19 @@ pub enum Statement {
 }
 
 /// The wrong statements, each with what is wrong about it.
-pub const WRONG: [(Statement, &str); 14] = [
+pub const WRONG: [(Statement, &str); 16] = [
     (Statement::Exchanged, "two images with each other's values"),
     (Statement::RootLeftOut, "the last congruence root left out"),
     (Statement::NoReadRoots, "no congruence roots of reads"),
     (Statement::NoCallRoots, "no congruence roots of calls"),
-    (Statement::OwnBytes, "a byte of its own for each Select"),
+    (Statement::OwnBytes, "a cell of its own for each Select"),
     (Statement::OwnResults, "a result of its own for each Call"),
     (Statement::OneArray, "one array for all numbers"),
+    (
+        Statement::HalfIndices,
+        "the top bit of an index not looked at",
+    ),
+    (Statement::HalfCells, "cells whose top bit is 0"),
     (Statement::OneFunction, "one function for all numbers"),
     (
         Statement::AnyResult,
