@@ -4,6 +4,7 @@
 //! with the expected outcomes, `bench` takes times, `smt` writes the library's
 //! values as a script for a solver, `check-self` holds two statements of Check
 //! against each other, `choices` tries that source and target leave the same choices,
+//! `smt-choices` asks a solver for that at second editions of any shape,
 //! `books` gives books to the programs `verdict` and `strict_verdict`, `slow` times the
 //! first.
 //! docs/COMPARISON.md tells more; `compare/run` builds and starts this program.
@@ -75,6 +76,8 @@ mod signatures;
 mod simpler;
 mod slow;
 mod smt;
+mod smtchoices;
+mod smtterms;
 mod sortcases;
 mod sortcounts;
 mod sorted;
@@ -104,7 +107,7 @@ use std::process::ExitCode;
 
 use operation::{Operation, OPERATIONS};
 
-const USAGE: &str = "usage: [compare|bench|list|smt|check-self|choices|books|slow] \
+const USAGE: &str = "usage: [compare|bench|list|smt|check-self|choices|smt-choices|books|slow] \
 [--seed N] [--cases N] [--rows N] [--only NAME] [--verdict PROGRAM] [--strict-verdict PROGRAM]";
 
 /// The words of the command line.
@@ -142,9 +145,8 @@ fn command(mut words: impl Iterator<Item = String>) -> Option<Command> {
             "--only" => command.only = Some(operation(&words.next()?)?),
             "--verdict" => command.verdict = words.next()?,
             "--strict-verdict" => command.strict_verdict = words.next()?,
-            "compare" | "bench" | "list" | "smt" | "check-self" | "choices" | "books" | "slow" => {
-                command.what = word
-            }
+            "compare" | "bench" | "list" | "smt" | "check-self" | "choices" | "smt-choices"
+            | "books" | "slow" => command.what = word,
             _ => return None,
         }
     }
@@ -159,6 +161,7 @@ fn main() -> ExitCode {
     let cases = command.cases.unwrap_or(match command.what.as_str() {
         "books" => 50_000,
         "choices" => 15_000,
+        "smt-choices" => 2_000,
         _ => 1_000_000,
     });
     let good = match command.what.as_str() {
@@ -167,6 +170,7 @@ fn main() -> ExitCode {
         "smt" => smt::smt(command.seed, command.rows),
         "check-self" => selftest::selftest(command.seed, cases),
         "choices" => choices::choices(command.seed, cases),
+        "smt-choices" => smtchoices::smt_choices(command.seed, cases),
         "books" => {
             let programs = [&command.verdict, &command.strict_verdict];
             books::books(command.seed, cases, programs[0], programs[1])
