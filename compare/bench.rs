@@ -86,7 +86,7 @@ fn values_graph(random: &mut Random) -> Lists {
     lists
 }
 
-fn source_graph(random: &mut Random) -> Lists {
+pub fn source_graph(random: &mut Random) -> Lists {
     let mut choice = Random::new(random.word());
     let mut builder = Builder::new(random, Style::Narrow, REACH);
     while builder.len() < ROWS {

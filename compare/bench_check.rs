@@ -256,7 +256,8 @@ fn case(check: &Check, name: &str, size: usize, mut lists: Lists, number: u64) -
     race(name, size, Per::Run, &mut mine, &mut theirs) && good
 }
 
-fn call(
+/// The library's answer.
+pub fn call(
     strict: bool,
     lists: &mut Lists,
     bits: &mut [Vec<u8>; 2],

@@ -11,6 +11,7 @@
 
 mod bench;
 mod bench_check;
+mod bench_sorts;
 mod book;
 mod bookcounts;
 mod bookdamage;
@@ -165,7 +166,10 @@ fn main() -> ExitCode {
         _ => 1_000_000,
     });
     let good = match command.what.as_str() {
-        "bench" => bench::bench(command.seed) && bench_check::bench(command.seed),
+        "bench" => {
+            let seed = command.seed;
+            bench::bench(seed) && bench_check::bench(seed) && bench_sorts::bench(seed)
+        }
         "list" => list::list(command.seed),
         "smt" => smt::smt(command.seed, command.rows),
         "check-self" => selftest::selftest(command.seed, cases),

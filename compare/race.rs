@@ -19,11 +19,17 @@ pub enum Per {
     Run,
 }
 
-/// The heads of the columns.
+/// The heads of the columns, ours against the Rust.
 pub fn heading(size: &str) {
+    heading_of(size, ["ours", "Rust"]);
+}
+
+/// The same for two sides of these names.
+pub fn heading_of(size: &str, sides: [&str; 2]) {
+    let [one, other] = sides.map(|side| format!("{side} (median)"));
     println!(
-        "{:36} {size:>8}  {:>19}  {:>19}  {:>7}",
-        "case", "ours (median)", "Rust (median)", "ratio"
+        "{:36} {size:>8}  {one:>19}  {other:>19}  {:>7}",
+        "case", "ratio"
     );
 }
 
