@@ -23,12 +23,13 @@ pub struct Run {
     again: u64,
 }
 
-/// Runs the comparison, of all operations or of one; false at a disagreement or
+/// Runs the comparison, of all operations or of some alone; false at a disagreement or
 /// where something never came.
-pub fn compare(seed: u64, cases: u64, only: Option<&'static dyn Operation>) -> bool {
+pub fn compare(seed: u64, cases: u64, only: &[&'static dyn Operation]) -> bool {
     let mut operations = OPERATIONS.to_vec();
-    if let Some(only) = only {
-        operations.retain(|(operation, _)| operation.number() == only.number());
+    if !only.is_empty() {
+        let numbers: Vec<u64> = only.iter().map(|operation| operation.number()).collect();
+        operations.retain(|(operation, _)| numbers.contains(&operation.number()));
     }
     println!("seed {seed}, all tiny cases and {cases} random ones");
     let chosen: Vec<&'static dyn Operation> = operations.iter().map(|&(of, _)| of).collect();

@@ -117,15 +117,20 @@ struct Command {
     seed: u64,
     cases: Option<u64>,
     rows: u64,
-    only: Option<&'static dyn Operation>,
+    only: Vec<&'static dyn Operation>,
     verdict: String,
     strict_verdict: String,
 }
 
-/// The operation of this name, its words joined by hyphens.
-fn operation(name: &str) -> Option<&'static dyn Operation> {
-    let mut operations = OPERATIONS.iter().map(|&(operation, _)| operation);
-    operations.find(|operation| operation.name().replace(' ', "-") == name)
+/// The operation of this name, its words joined by hyphens; by `sorts` all that have a sort
+/// table.
+fn operations(name: &str) -> Option<Vec<&'static dyn Operation>> {
+    let mut operations: Vec<_> = OPERATIONS.iter().map(|&(operation, _)| operation).collect();
+    operations.retain(|operation| match name {
+        "sorts" => operation.sorts().is_some(),
+        _ => operation.name().replace(' ', "-") == name,
+    });
+    (!operations.is_empty()).then_some(operations)
 }
 
 fn command(mut words: impl Iterator<Item = String>) -> Option<Command> {
@@ -134,7 +139,7 @@ fn command(mut words: impl Iterator<Item = String>) -> Option<Command> {
         seed: 1,
         cases: None,
         rows: 20_000,
-        only: None,
+        only: Vec::new(),
         verdict: "target/bin/verdict".to_string(),
         strict_verdict: "target/bin/strict_verdict".to_string(),
     };
@@ -143,7 +148,7 @@ fn command(mut words: impl Iterator<Item = String>) -> Option<Command> {
             "--seed" => command.seed = words.next()?.parse().ok()?,
             "--cases" => command.cases = Some(words.next()?.parse().ok()?),
             "--rows" => command.rows = words.next()?.parse().ok()?,
-            "--only" => command.only = Some(operation(&words.next()?)?),
+            "--only" => command.only = operations(&words.next()?)?,
             "--verdict" => command.verdict = words.next()?,
             "--strict-verdict" => command.strict_verdict = words.next()?,
             "compare" | "bench" | "list" | "smt" | "check-self" | "choices" | "smt-choices"
@@ -180,7 +185,7 @@ fn main() -> ExitCode {
             books::books(command.seed, cases, programs[0], programs[1])
         }
         "slow" => slow::slow(&command.verdict),
-        _ => compare::compare(command.seed, cases, command.only),
+        _ => compare::compare(command.seed, cases, &command.only),
     };
     ExitCode::from(if good { 0 } else { 1 })
 }
