@@ -1,11 +1,12 @@
 //! Tiny graphs, all of them: one row over no, one or two variables, its fields
 //! taken from a few edge values in every combination; likewise over variables
-//! near the ceiling. Also tiny root lists. grid.rs has the operators on all
-//! operands of small widths.
+//! near the ceiling, and Selects with every small sort table. Also tiny root lists.
+//! grid.rs has the operators on all operands of small widths.
 
 use crate::operation::{Kind, Lists, Operation};
 use crate::roots::ROOTS;
 use crate::rules::{Graph, CEILING, SOURCE, TARGET};
+use crate::sortedwidths::SOURCE_WIDTHS_WITH_SORTS;
 use crate::tags::*;
 use crate::values::VALUES;
 use crate::widths::{SOURCE_WIDTHS, TARGET_WIDTHS};
@@ -22,6 +23,7 @@ pub fn each(visit: &mut Visit) -> bool {
         && graphs(TARGET, &TARGET_WIDTHS, visit)
         && graphs(TARGET, &VALUES, visit)
         && roots(visit)
+        && sorted(visit)
 }
 
 /// Every list of exactly `length` words taken from `words`.
@@ -173,6 +175,59 @@ fn one(
         });
     }
     visit(operation, &lists)
+}
+
+/// Selects over up to two variables with each table of array 3 at widths of 1, 8 and 32,
+/// with none and with tables that are refused; then the other rows with no array listed.
+fn sorted(visit: &mut Visit) -> bool {
+    let widths = [1, 8, 32];
+    let shapes = widths
+        .iter()
+        .flat_map(|&index| widths.map(|cell| vec![3, index, cell]));
+    let others: [&[u64]; 6] = [
+        &[],
+        &[4, 32, 8],
+        &[3, 8],
+        &[3, 0, 8],
+        &[3, 8, 0],
+        &[3, 8, TOP + 1],
+    ];
+    let others = others.map(<[u64]>::to_vec);
+    let tables: Vec<Vec<u64>> = shapes.chain(others).collect();
+    let mut rows = chain_rows();
+    rows.retain(|row| row[0] == SELECT);
+    let sides = lists_up_to(2, &[0, 1]);
+    for earlier in lists_up_to(2, &widths) {
+        let before = variables(&earlier);
+        for (row, side) in rows.iter().flat_map(|r| sides.iter().map(move |s| (r, s))) {
+            let rows = [&before[..], row].concat();
+            if !tables
+                .iter()
+                .all(|table| with_table(&rows, side, table, visit))
+            {
+                return false;
+            }
+        }
+    }
+    let last = last_rows(SOURCE);
+    let mut over = lists_up_to(1, &widths).into_iter();
+    over.all(|earlier| {
+        let before = variables(&earlier);
+        let mut rows = last.iter().map(|row| [&before[..], row].concat());
+        rows.all(|rows| with_table(&rows, &[], &[], visit))
+    })
+}
+
+/// The words of source variables of these widths.
+fn variables(widths: &[u64]) -> Vec<u64> {
+    let rows = widths.iter().flat_map(|&w| padded(VAR, &[w], SOURCE));
+    rows.collect()
+}
+
+fn with_table(rows: &[u64], side: &[u64], table: &[u64], visit: &mut Visit) -> bool {
+    let lent = vec![0xa5a5; rows.len() / SOURCE.row + 1];
+    let lists = vec![rows.to_vec(), vec![], side.to_vec(), table.to_vec(), lent];
+    visit(&SOURCE_WIDTHS_WITH_SORTS, &lists)
 }
 
 fn roots(visit: &mut Visit) -> bool {
