@@ -8,8 +8,8 @@ ghost use Rattle.lowering.specs.Check.{checkBy};
 use answers::Answer;
 use rows::Graph;
 
-// Whether the target is the lowering of the source, or the first refusal by 01's order, with 19 where the check is strict and 28 where the edition is the
-// second, whose table gives the arrays their sorts; in the four lists the widths of both graphs, the classes and the entry offsets.
+// Whether the target is the lowering of the source, or the first refusal by 01's order, with 19 where the check is strict and 28 where the edition is
+// the second, whose table gives the arrays their sorts; in the four lists the widths of both graphs, the classes and the entry offsets.
 pub fn check(
     strict: bool,
     source: &[u64],

@@ -26,8 +26,8 @@ abbrev pub stride : Table → ℕ
 stride Reads = 3
 stride Calls = 4
 
--- beside its entries a read table has the sorts of its edition, a call table the list of arguments. The sort of a read entry's array: the width of its
--- index, and of its variable, which is a cell's; an entry of calls has none
+-- beside its entries a read table has the sorts of its edition, a call table the list of arguments. The sort of a read entry's array: the width of
+-- its index, and of its variable, which is a cell's; an entry of calls has none
 abbrev pub sortIn : Table → Bool → List ℕ → List ℕ → ℕ → Sort
 sortIn Reads second table beside k =
     let σ = sortsOf (edition second beside) in

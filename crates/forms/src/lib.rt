@@ -49,7 +49,8 @@ pub fn count_answer(
     Answer::Accepted
 }
 
-// 16, 17, the sort table's answer, 1 and 2, where each graph's rows before its row `stop` are good and well formed, and that row, if any, is badly encoded or ill-formed.
+// 16, 17, the sort table's answer, 1 and 2, where each graph's rows before its row `stop` are good and well formed, and that row, if any, is badly
+// encoded or ill-formed.
 fn graph_answer(
     sort: Answer,
     source: &[u64],
@@ -94,8 +95,8 @@ fn graph_answer(
     Answer::Accepted
 }
 
-// The widths of both graphs, the source's by the sorts of an edition, or the first refusal by 01's order; a source that is refused leaves the target's
-// widths unasked, a table that is refused both graphs'.
+// The widths of both graphs, the source's by the sorts of an edition, or the first refusal by 01's order; a source that is refused leaves the
+// target's widths unasked, a table that is refused both graphs'.
 fn graphs(
     source: &[u64],
     ebits: &[u8],
@@ -109,8 +110,8 @@ fn graphs(
 ) -> Answer
     requires { ⌜ rowCount Graph.Source (now source) ≤ length (now ws0) ⌝ }
     requires { ⌜ rowCount Graph.Target (now target) ≤ length (now ws1) ⌝ }
-    ensures answer { λ r. ⌜ r ≡ graphsAnswer (edition second (now (sorts .entry))) (sourceGraph (now (source .entry)) (now (ebits .entry)) (now (eside .entry)))
-        (targetGraph (now (target .entry)) (now (tbits .entry))) ⌝ }
+    ensures answer { λ r. ⌜ r ≡ graphsAnswer (edition second (now (sorts .entry)))
+        (sourceGraph (now (source .entry)) (now (ebits .entry)) (now (eside .entry))) (targetGraph (now (target .entry)) (now (tbits .entry))) ⌝ }
     ensures source_list { λ r. ⌜ (isAccepted r ≡ true → now (ws0 .exit)
         ≡ widths (sortsOf (edition second (now (sorts .entry)))) Graph.Source (length (now (ebits .entry))) (now (eside .entry))
         (now (source .entry))

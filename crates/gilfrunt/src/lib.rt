@@ -201,16 +201,16 @@ pub extern "C" fn gilfrunt_check_with_sorts(
     entries: &mut [u64],
 ) -> Words
     ensures outcome { λ r. ⌜ told r (now (ws0 .exit) ∷ now (ws1 .exit) ∷ now (classes .exit) ∷ now (entries .exit) ∷ [])
-        ≡ toldOf (check (loweringIn (secondEdition (now (sorts .entry))) (now (source .entry)) (now (ebits .entry))
-        (now (eside .entry)) (now (eroots .entry)) (now (map .entry)) (now (reads .entry)) (now (calls .entry)) (now (cargs .entry))
-        (now (target .entry)) (now (tbits .entry)) (now (troots .entry))) (now (ws0 .entry)) (now (ws1 .entry)) (now (classes .entry))
-        (now (entries .entry))) ⌝ }
-    ensures sound { λ r. ⌜ (r .number ≡ 0 → Sound (loweringIn (secondEdition (now (sorts .entry))) (now (source .entry)) (now (ebits .entry))
-        (now (eside .entry)) (now (eroots .entry)) (now (map .entry)) (now (reads .entry)) (now (calls .entry)) (now (cargs .entry))
-        (now (target .entry)) (now (tbits .entry)) (now (troots .entry)))) ⌝ }
-    ensures choices { λ r. ⌜ (r .number ≡ 0 → SameChoices (loweringIn (secondEdition (now (sorts .entry))) (now (source .entry)) (now (ebits .entry))
-        (now (eside .entry)) (now (eroots .entry)) (now (map .entry)) (now (reads .entry)) (now (calls .entry)) (now (cargs .entry))
-        (now (target .entry)) (now (tbits .entry)) (now (troots .entry))) (now (classes .exit))) ⌝ }
+        ≡ toldOf (check (loweringIn (secondEdition (now (sorts .entry))) (now (source .entry))
+        (now (ebits .entry)) (now (eside .entry)) (now (eroots .entry)) (now (map .entry)) (now (reads .entry)) (now (calls .entry))
+        (now (cargs .entry)) (now (target .entry)) (now (tbits .entry)) (now (troots .entry)))
+        (now (ws0 .entry)) (now (ws1 .entry)) (now (classes .entry)) (now (entries .entry))) ⌝ }
+    ensures sound { λ r. ⌜ (r .number ≡ 0 → Sound (loweringIn (secondEdition (now (sorts .entry))) (now (source .entry))
+        (now (ebits .entry)) (now (eside .entry)) (now (eroots .entry)) (now (map .entry)) (now (reads .entry)) (now (calls .entry))
+        (now (cargs .entry)) (now (target .entry)) (now (tbits .entry)) (now (troots .entry)))) ⌝ }
+    ensures choices { λ r. ⌜ (r .number ≡ 0 → SameChoices (loweringIn (secondEdition (now (sorts .entry))) (now (source .entry))
+        (now (ebits .entry)) (now (eside .entry)) (now (eroots .entry)) (now (map .entry)) (now (reads .entry)) (now (calls .entry))
+        (now (cargs .entry)) (now (target .entry)) (now (tbits .entry)) (now (troots .entry))) (now (classes .exit))) ⌝ }
 {
     reported::check(
         false,
@@ -254,16 +254,16 @@ pub extern "C" fn gilfrunt_strict_check_with_sorts(
     entries: &mut [u64],
 ) -> Words
     ensures outcome { λ r. ⌜ told r (now (ws0 .exit) ∷ now (ws1 .exit) ∷ now (classes .exit) ∷ now (entries .exit) ∷ [])
-        ≡ toldOf (strictCheck (loweringIn (secondEdition (now (sorts .entry))) (now (source .entry)) (now (ebits .entry))
-        (now (eside .entry)) (now (eroots .entry)) (now (map .entry)) (now (reads .entry)) (now (calls .entry)) (now (cargs .entry))
-        (now (target .entry)) (now (tbits .entry)) (now (troots .entry))) (now (ws0 .entry)) (now (ws1 .entry)) (now (classes .entry))
-        (now (entries .entry))) ⌝ }
-    ensures sound { λ r. ⌜ (r .number ≡ 0 → StrictlySound (loweringIn (secondEdition (now (sorts .entry))) (now (source .entry)) (now (ebits .entry))
-        (now (eside .entry)) (now (eroots .entry)) (now (map .entry)) (now (reads .entry)) (now (calls .entry)) (now (cargs .entry))
-        (now (target .entry)) (now (tbits .entry)) (now (troots .entry)))) ⌝ }
-    ensures choices { λ r. ⌜ (r .number ≡ 0 → SameStrictChoices (loweringIn (secondEdition (now (sorts .entry))) (now (source .entry)) (now (ebits .entry))
-        (now (eside .entry)) (now (eroots .entry)) (now (map .entry)) (now (reads .entry)) (now (calls .entry)) (now (cargs .entry))
-        (now (target .entry)) (now (tbits .entry)) (now (troots .entry))) (now (classes .exit))) ⌝ }
+        ≡ toldOf (strictCheck (loweringIn (secondEdition (now (sorts .entry))) (now (source .entry))
+        (now (ebits .entry)) (now (eside .entry)) (now (eroots .entry)) (now (map .entry)) (now (reads .entry)) (now (calls .entry))
+        (now (cargs .entry)) (now (target .entry)) (now (tbits .entry)) (now (troots .entry)))
+        (now (ws0 .entry)) (now (ws1 .entry)) (now (classes .entry)) (now (entries .entry))) ⌝ }
+    ensures sound { λ r. ⌜ (r .number ≡ 0 → StrictlySound (loweringIn (secondEdition (now (sorts .entry))) (now (source .entry))
+        (now (ebits .entry)) (now (eside .entry)) (now (eroots .entry)) (now (map .entry)) (now (reads .entry)) (now (calls .entry))
+        (now (cargs .entry)) (now (target .entry)) (now (tbits .entry)) (now (troots .entry)))) ⌝ }
+    ensures choices { λ r. ⌜ (r .number ≡ 0 → SameStrictChoices (loweringIn (secondEdition (now (sorts .entry))) (now (source .entry))
+        (now (ebits .entry)) (now (eside .entry)) (now (eroots .entry)) (now (map .entry)) (now (reads .entry)) (now (calls .entry))
+        (now (cargs .entry)) (now (target .entry)) (now (tbits .entry)) (now (troots .entry))) (now (classes .exit))) ⌝ }
 {
     reported::check(
         true,

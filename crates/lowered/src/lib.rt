@@ -16,7 +16,8 @@ ghost use Rattle.matching.specs.Ready.{Formed};
 use answers::Answer;
 use rows::Graph;
 
-// 3 to 14: whether the target, well formed and with its widths, is the lowering of the source by the sorts of an edition. The two lists hold zeros before.
+// 3 to 14: whether the target, well formed and with its widths, is the lowering of the source by the sorts of an edition. The two lists hold zeros
+// before.
 fn matches(
     source: &[u64],
     ebits: &[u8],
@@ -41,15 +42,18 @@ fn matches(
     requires { ⌜ now ent ≡ replicate (rowCount Graph.Target (now target)) 0 ⌝ }
     requires { ⌜ Good (edition second (now sorts)) ⌝ }
     ensures answer { λ r. ⌜ r ≡ firstRefusal (matchAnswers
-        (loweringIn (edition second (now (sorts .entry))) (now (source .entry)) (now (ebits .entry)) (now (eside .entry)) (now (eroots .entry)) (now (map .entry)) (now (reads .entry))
-        (now (calls .entry)) (now (cargs .entry)) (now (target .entry)) (now (tbits .entry)) (now (troots .entry)))) ⌝ }
+        (loweringIn (edition second (now (sorts .entry))) (now (source .entry)) (now (ebits .entry)) (now (eside .entry))
+        (now (eroots .entry)) (now (map .entry)) (now (reads .entry)) (now (calls .entry)) (now (cargs .entry)) (now (target .entry))
+        (now (tbits .entry)) (now (troots .entry)))) ⌝ }
     ensures class_list { λ r. ⌜ (isAccepted r ≡ true → now (cls .exit)
-        ≡ classes (loweringIn (edition second (now (sorts .entry))) (now (source .entry)) (now (ebits .entry)) (now (eside .entry)) (now (eroots .entry)) (now (map .entry))
-        (now (reads .entry)) (now (calls .entry)) (now (cargs .entry)) (now (target .entry)) (now (tbits .entry)) (now (troots .entry)))
+        ≡ classes (loweringIn (edition second (now (sorts .entry))) (now (source .entry)) (now (ebits .entry)) (now (eside .entry))
+        (now (eroots .entry)) (now (map .entry)) (now (reads .entry)) (now (calls .entry)) (now (cargs .entry)) (now (target .entry))
+        (now (tbits .entry)) (now (troots .entry)))
         (rowCount Graph.Source (now (source .entry)))) ⌝ }
     ensures entry_list { λ r. ⌜ (isAccepted r ≡ true → now (ent .exit)
-        ≡ offsets (loweringIn (edition second (now (sorts .entry))) (now (source .entry)) (now (ebits .entry)) (now (eside .entry)) (now (eroots .entry)) (now (map .entry))
-        (now (reads .entry)) (now (calls .entry)) (now (cargs .entry)) (now (target .entry)) (now (tbits .entry)) (now (troots .entry)))) ⌝ }
+        ≡ offsets (loweringIn (edition second (now (sorts .entry))) (now (source .entry)) (now (ebits .entry)) (now (eside .entry))
+        (now (eroots .entry)) (now (map .entry)) (now (reads .entry)) (now (calls .entry)) (now (cargs .entry)) (now (target .entry))
+        (now (tbits .entry)) (now (troots .entry)))) ⌝ }
 {
     let n = rows::row_count(Graph::Source, source);
     if map.len() != n {
@@ -107,15 +111,18 @@ pub fn lowered(
     requires { ⌜ rowCount Graph.Target (now target) ≤ length (now ent) ⌝ }
     requires { ⌜ Good (edition second (now sorts)) ⌝ }
     ensures answer { λ r. ⌜ r ≡ firstRefusal (matchAnswers
-        (loweringIn (edition second (now (sorts .entry))) (now (source .entry)) (now (ebits .entry)) (now (eside .entry)) (now (eroots .entry)) (now (map .entry)) (now (reads .entry))
-        (now (calls .entry)) (now (cargs .entry)) (now (target .entry)) (now (tbits .entry)) (now (troots .entry)))) ⌝ }
+        (loweringIn (edition second (now (sorts .entry))) (now (source .entry)) (now (ebits .entry)) (now (eside .entry))
+        (now (eroots .entry)) (now (map .entry)) (now (reads .entry)) (now (calls .entry)) (now (cargs .entry)) (now (target .entry))
+        (now (tbits .entry)) (now (troots .entry)))) ⌝ }
     ensures class_list { λ r. ⌜ (isAccepted r ≡ true → now (cls .exit)
-        ≡ classes (loweringIn (edition second (now (sorts .entry))) (now (source .entry)) (now (ebits .entry)) (now (eside .entry)) (now (eroots .entry)) (now (map .entry))
-        (now (reads .entry)) (now (calls .entry)) (now (cargs .entry)) (now (target .entry)) (now (tbits .entry)) (now (troots .entry)))
+        ≡ classes (loweringIn (edition second (now (sorts .entry))) (now (source .entry)) (now (ebits .entry)) (now (eside .entry))
+        (now (eroots .entry)) (now (map .entry)) (now (reads .entry)) (now (calls .entry)) (now (cargs .entry)) (now (target .entry))
+        (now (tbits .entry)) (now (troots .entry)))
         (rowCount Graph.Source (now (source .entry))) ++ replicate (length (now (cls .entry)) - rowCount Graph.Target (now (target .entry))) 0) ⌝ }
     ensures entry_list { λ r. ⌜ (isAccepted r ≡ true → now (ent .exit)
-        ≡ offsets (loweringIn (edition second (now (sorts .entry))) (now (source .entry)) (now (ebits .entry)) (now (eside .entry)) (now (eroots .entry)) (now (map .entry))
-        (now (reads .entry)) (now (calls .entry)) (now (cargs .entry)) (now (target .entry)) (now (tbits .entry)) (now (troots .entry)))
+        ≡ offsets (loweringIn (edition second (now (sorts .entry))) (now (source .entry)) (now (ebits .entry)) (now (eside .entry))
+        (now (eroots .entry)) (now (map .entry)) (now (reads .entry)) (now (calls .entry)) (now (cargs .entry)) (now (target .entry))
+        (now (tbits .entry)) (now (troots .entry)))
         ++ replicate (length (now (ent .entry)) - rowCount Graph.Target (now (target .entry))) 0) ⌝ }
 {
     lists::clear(cls);

@@ -22,10 +22,10 @@ use Rattle.lowering.specs.Lowering.{Lowering, lowering}
 use Rattle.lowering.specs.Check.{firstRefusal, check, strictCheck, checkAnswer, checkAnswerBy}
 
 -- rows, one after the other
-abbrev s5 : ℕ → ℕ → ℕ → ℕ → ℕ → List ℕ → List ℕ
+abbrev pub s5 : ℕ → ℕ → ℕ → ℕ → ℕ → List ℕ → List ℕ
 s5 t a b c d rest = t ∷ a ∷ b ∷ c ∷ d ∷ rest
 
-abbrev t4 : ℕ → ℕ → ℕ → ℕ → List ℕ → List ℕ
+abbrev pub t4 : ℕ → ℕ → ℕ → ℕ → List ℕ → List ℕ
 t4 t a b c rest = t ∷ a ∷ b ∷ c ∷ rest
 
 -- the answer with room for twenty words in each list

@@ -1,4 +1,5 @@
 pub mod Cases
+pub mod Shapes
 pub mod Refusals
 pub mod Inversion
 pub mod Images

@@ -105,8 +105,8 @@ countAnswers S T w0 w1 c e =
     ∷ []
 
 -- "16 BadRow: .. (row; detail 1 or 2 for the graph). 17 BadBit: .. (position; 1 or 2) .. where one has two causes, the source or lower list goes
--- first"; the sort table's answer, "28 SortTable .. after 17" (02, 2.9); "Then 1 Ext (row); 2 Core (row)", of the rows named as ill-formed, if they are
--- rows
+-- first"; the sort table's answer, "28 SortTable .. after 17" (02, 2.9); "Then 1 Ext (row); 2 Core (row)", of the rows named as ill-formed, if they
+-- are rows
 abbrev pub graphAnswers : Answer → SourceGraph → TargetGraph → ℕ → ℕ → List Answer
 graphAnswers sort S T ill0 ill1 =
     refuse (ltb (badRow Source (S .rows)) (rowCount Source (S .rows))) (BadRow (badRow Source (S .rows)) 1)
@@ -176,7 +176,8 @@ matchAnswers L =
 abbrev pub checkAnswerBy : Bool → Lowering → ℕ → ℕ → ℕ → ℕ → Answer
 checkAnswerBy strict L w0 w1 c e =
     firstRefusal
-    (countAnswers (L .source) (L .target) w0 w1 c e ++ (formAnswers strict (L .edition) (L .source) (L .target) (L .eroots) (L .troots) ++ matchAnswers L))
+    (countAnswers (L .source) (L .target) w0 w1 c e
+    ++ (formAnswers strict (L .edition) (L .source) (L .target) (L .eroots) (L .troots) ++ matchAnswers L))
 
 abbrev pub checkAnswer : Lowering → ℕ → ℕ → ℕ → ℕ → Answer
 checkAnswer L w0 w1 c e = checkAnswerBy false L w0 w1 c e

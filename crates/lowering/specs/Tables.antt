@@ -91,8 +91,8 @@ entryGood stride isVar table target cls k own =
     ∷ own)
 
 -- 5: "index .. out of range, index width not 32, or the same key again", where 32 and the variable's 8 are the array's widths; ws are the target's
--- widths, σ the sorts. An array without a sort has a cell width of 0, which no Var of a well-formed target has: "a read entry that names one is refused
--- by 5" (02, 2.9)
+-- widths, σ the sorts. An array without a sort has a cell width of 0, which no Var of a well-formed target has: "a read entry that names one is
+-- refused by 5" (02, 2.9)
 unfoldable pub readGood : Sorts → List ℕ → List ℕ → List ℕ → List ℕ → ℕ → Bool
 readGood σ reads target ws cls k =
     entryGood 3 (λ r. rowIs r (Var (σ .cell (readArray reads k)))) reads target cls k

@@ -25,7 +25,8 @@ pub record Interpretation : Type 0 where
   pub array : ℕ → ℕ → ℕ
   pub function : ℕ → ℕ → List Val → ℕ
 
--- of its kind: "its value lies below 2^w", a cell's below 2 to its array's cell width. Arrays and symbols that a source does not name have no bearing on it, and are held to the same
+-- of its kind: "its value lies below 2^w", a cell's below 2 to its array's cell width. Arrays and symbols that a source does not name have no bearing
+-- on it, and are held to the same
 pub record OfKind (σ : Sorts) (I : Interpretation) (g : List ℕ) : Type 0 where
   pub variables-fit : (i w : ℕ) → i < rowCount Source g → nodeOf (rowAt Source g i) ≡ Var w → I .variable i < 2 ^ w
   pub cells-fit : (a x : ℕ) → I .array a x < 2 ^ σ .cell a

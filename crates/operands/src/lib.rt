@@ -200,7 +200,8 @@ fn listed_width(
     ws: &[u64],
 ) -> u64
     requires { ⌜ Good (edition second (now sorts)) ⌝ }
-    ensures width { λ w. ⌜ w ≡ listedWidth (sortsOf (edition second (now (sorts .entry)))) nbits (now (side .entry)) (now (ws .entry)) line f1 f2 f3 f4 ⌝ }
+    ensures width { λ w. ⌜ w ≡ listedWidth (sortsOf (edition second (now (sorts .entry)))) nbits (now (side .entry))
+        (now (ws .entry)) line f1 f2 f3 f4 ⌝ }
 {
     if line.0 == operand::NONE {
         return no_row(line, nbits, f1, f2, f3, f4, ws, side);

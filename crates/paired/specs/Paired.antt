@@ -1,4 +1,5 @@
--- When Check, or the strict check, of either edition answers a case as it expects: the number, place and detail, and its four lent lists. Assumes nothing.
+-- When Check, or the strict check, of either edition answers a case as it expects: the number, place and detail, and its four lent lists. Assumes
+-- nothing.
 use Prim.Native.Nat.{ℕ, _+_}
 use mathlib.Core.Path.{_≡_}
 use mathlib.Core.Bool.{Bool, true, cond}

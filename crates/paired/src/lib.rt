@@ -1,4 +1,5 @@
-// Check and the strict check of either edition, the operations on two graphs: takes the lists from a case, calls the library, and compares the outcome.
+// Check and the strict check of either edition, the operations on two graphs: takes the lists from a case, calls the library, and compares the
+// outcome.
 ghost use mathlib.Core.Path.{_≡_};
 ghost use mathlib.Core.Bool.{true};
 ghost use mathlib.Core.List.{[], _∷_};

@@ -33,15 +33,16 @@ pub fn check(
     entries: &mut [u64],
 ) -> Words
     ensures outcome { λ r. ⌜ told r (now (ws0 .exit) ∷ now (ws1 .exit) ∷ now (classes .exit) ∷ now (entries .exit) ∷ [])
-        ≡ toldOf (checkBy strict (loweringIn (edition second (now (sorts .entry))) (now (source .entry)) (now (ebits .entry)) (now (eside .entry))
-        (now (eroots .entry)) (now (map .entry)) (now (reads .entry)) (now (calls .entry)) (now (cargs .entry)) (now (target .entry)) (now (tbits .entry))
-        (now (troots .entry))) (now (ws0 .entry)) (now (ws1 .entry)) (now (classes .entry)) (now (entries .entry))) ⌝ }
-    ensures sound { λ r. ⌜ (r .number ≡ 0 → SoundBy (truth strict) (loweringIn (edition second (now (sorts .entry))) (now (source .entry)) (now (ebits .entry))
-        (now (eside .entry)) (now (eroots .entry)) (now (map .entry)) (now (reads .entry)) (now (calls .entry)) (now (cargs .entry)) (now (target .entry))
-        (now (tbits .entry)) (now (troots .entry)))) ⌝ }
-    ensures choices { λ r. ⌜ (r .number ≡ 0 → SameChoicesBy (loweringIn (edition second (now (sorts .entry))) (now (source .entry)) (now (ebits .entry))
-        (now (eside .entry)) (now (eroots .entry)) (now (map .entry)) (now (reads .entry)) (now (calls .entry)) (now (cargs .entry)) (now (target .entry))
-        (now (tbits .entry)) (now (troots .entry))) (truth strict) (now (classes .exit))) ⌝ }
+        ≡ toldOf (checkBy strict (loweringIn (edition second (now (sorts .entry))) (now (source .entry)) (now (ebits .entry))
+        (now (eside .entry)) (now (eroots .entry)) (now (map .entry)) (now (reads .entry)) (now (calls .entry)) (now (cargs .entry))
+        (now (target .entry)) (now (tbits .entry)) (now (troots .entry))) (now (ws0 .entry)) (now (ws1 .entry)) (now (classes .entry))
+        (now (entries .entry))) ⌝ }
+    ensures sound { λ r. ⌜ (r .number ≡ 0 → SoundBy (truth strict) (loweringIn (edition second (now (sorts .entry))) (now (source .entry))
+        (now (ebits .entry)) (now (eside .entry)) (now (eroots .entry)) (now (map .entry)) (now (reads .entry)) (now (calls .entry))
+        (now (cargs .entry)) (now (target .entry)) (now (tbits .entry)) (now (troots .entry)))) ⌝ }
+    ensures choices { λ r. ⌜ (r .number ≡ 0 → SameChoicesBy (loweringIn (edition second (now (sorts .entry))) (now (source .entry))
+        (now (ebits .entry)) (now (eside .entry)) (now (eroots .entry)) (now (map .entry)) (now (reads .entry)) (now (calls .entry))
+        (now (cargs .entry)) (now (target .entry)) (now (tbits .entry)) (now (troots .entry))) (truth strict) (now (classes .exit))) ⌝ }
 {
     let a = checker::check(
         strict,

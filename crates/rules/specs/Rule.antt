@@ -65,8 +65,8 @@ chainGood iw cw ws side s k = entriesGood 2 (pairBad iw cw ws side s) side s k
 abbrev pub argsGood : List ℕ → List ℕ → ℕ → ℕ → Bool
 argsGood ws side s k = entriesGood 1 (argBad (length ws) side s) side s k
 
--- "Select needs an index of width [the array's] and, per pair in the side list, an index row of [that width] and a value row of width [its cell's]; its
--- width is [that]"
+-- "Select needs an index of width [the array's] and, per pair in the side list, an index row of [that width] and a value row of width [its cell's];
+-- its width is [that]"
 abbrev pub selectWidth : ℕ → ℕ → List ℕ → List ℕ → ℕ → ℕ → ℕ → ℕ
 selectWidth iw cw ws side j s k = cond (eqb (getD ws j 0) iw) (cond (chainGood iw cw ws side s k) cw 0) 0
 

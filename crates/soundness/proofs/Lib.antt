@@ -18,6 +18,7 @@ pub mod Reach
 pub mod Truths
 pub mod Accepted
 pub mod Choices
+pub mod Listed
 pub mod Theorem
 pub mod Guards
 pub mod Model

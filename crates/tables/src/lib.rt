@@ -48,7 +48,8 @@ fn table_entries(
     k as u64
 }
 
-// The first bad read entry by the sorts of an edition, or the number of entries; the variables of those before it get class 2 and their entry's offset.
+// The first bad read entry by the sorts of an edition, or the number of entries; the variables of those before it get class 2 and their entry's
+// offset.
 pub fn read_entries(
     reads: &[u64],
     second: bool,

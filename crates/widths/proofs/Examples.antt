@@ -3,14 +3,15 @@ use Prim.Native.Nat.{ℕ}
 use mathlib.Core.Path.{_≡_, refl}
 use mathlib.Core.List.{List, [], _∷_, _++_}
 use lib.ListN.{replicate}
-use Rattle.sorts.specs.Sorts.{plain}
-use Rattle.answers.specs.declared.Answer.the-variants.{Accepted, Ext, Core, RowCount, BadRow, BadBit, WorkShort, BadRoot}
+use Rattle.lists.specs.Tests.{all}
+use Rattle.sorts.specs.Sorts.{plain, sortGood}
+use Rattle.answers.specs.declared.Answer.the-variants.{Accepted, Ext, Core, RowCount, BadRow, BadBit, WorkShort, BadRoot, SortTable}
 use Rattle.lists.specs.First.{first}
 use Rattle.lists.specs.Build.{build}
 use Rattle.answers.specs.Result.{result}
 use Rattle.rows.specs.declared.Graph.the-variants.{Target}
 use Rattle.wf.specs.Widths.{illRow}
-use Rattle.widths.specs.Widths.{sourceWidths, targetWidths, rootsAnswer}
+use Rattle.widths.specs.Widths.{sourceWidths, sourceWidthsWithSorts, targetWidths, rootsAnswer}
 
 -- rows of five and of four words
 abbrev s5 : ℕ → ℕ → ℕ → ℕ → ℕ → List ℕ → List ℕ
@@ -159,3 +160,26 @@ wide-root = refl
 far-root : rootsAnswer (32 ∷ 8 ∷ 1 ∷ []) (3 ∷ []) ≡ BadRoot 0 0
 unfolding first
 far-root = refl
+
+-- "The new scale has 16-bit addresses and 16-bit cells" (02, 2.9): Var(16), Select(7,0)
+abbrev newScale : List ℕ
+newScale = s5 0 16 0 0 0 (s5 37 7 0 0 0 [])
+
+new-scale : sourceWidthsWithSorts newScale [] [] (7 ∷ 16 ∷ 16 ∷ []) (junk 3) ≡ result Accepted ((16 ∷ 16 ∷ 0 ∷ []) ∷ [])
+unfolding first build sortGood all
+new-scale = refl
+
+-- "28 SortTable (first entry) .. after 17", and before 1
+case-28 : sourceWidthsWithSorts newScale [] [] (7 ∷ 16 ∷ []) (junk 3) ≡ result (SortTable 0) ((0 ∷ 0 ∷ 0 ∷ []) ∷ [])
+unfolding first build sortGood all
+case-28 = refl
+
+case-17 : sourceWidthsWithSorts newScale (2 ∷ []) [] (7 ∷ 16 ∷ []) (junk 3) ≡ result (BadBit 0 1) ((0 ∷ 0 ∷ 0 ∷ []) ∷ [])
+unfolding first build sortGood all
+case-17 = refl
+
+-- "An array not listed makes its Select ill-formed (1)", and so does a cell width above 4,096
+case-unlisted : sourceWidthsWithSorts newScale [] [] [] (junk 3) ∷ sourceWidthsWithSorts newScale [] [] (7 ∷ 16 ∷ 4097 ∷ []) (junk 3) ∷ []
+    ≡ result (Ext 1) ((0 ∷ 0 ∷ 0 ∷ []) ∷ []) ∷ result (Ext 1) ((0 ∷ 0 ∷ 0 ∷ []) ∷ []) ∷ []
+unfolding first build sortGood all
+case-unlisted = refl

@@ -85,6 +85,11 @@ lent-sort true q sort a b d more old new n k = refl
 lent-sort false true sort a b d more old new n k = refl
 lent-sort false false sort a b d more old new n k = rw (n, n, k)
 
+-- and settles the answer, whatever row would be named
+any-row : (sort : Answer) (graph : Graph) (g bits : List ℕ) (x y : ℕ) → isAccepted sort ≡ false
+    → rowsAnswerBy sort graph g bits x ≡ rowsAnswerBy sort graph g bits y
+any-row sort graph g bits x y n = rw n
+
 module _ (E : Edition) (graph : Graph) (g bits side ws : List ℕ) where
   pub widths-15 : ragged graph g ≡ true → graphWidths E graph g bits side ws ≡ result (RowCount (graphNumber graph)) (ws ∷ [])
   widths-15 r = rw r
@@ -94,11 +99,10 @@ module _ (E : Edition) (graph : Graph) (g bits side ws : List ℕ) where
     widths-18 h = rw (whole, lt-ltb _ _ h)
 
     module _ (room : rowCount graph g ≤ length ws) where
-      pub widths-28 : isAccepted (sortAnswer E) ≡ false → (a : Answer)
-          → a ≡ rowsAnswerBy (sortAnswer E) graph g bits (illRow (sortsOf E) graph (length bits) side g)
+      pub widths-28 : isAccepted (sortAnswer E) ≡ false → (stop : ℕ) (a : Answer) → a ≡ rowsAnswerBy (sortAnswer E) graph g bits stop
           → graphWidths E graph g bits side ws ≡ result a (replicate (length ws) 0 ∷ [])
-      widths-28 n a e =
-          rw (whole, le-ltb _ _ room, e)
+      widths-28 n stop a e =
+          rw (whole, le-ltb _ _ room, e, any-row (sortAnswer E) graph g bits stop (illRow (sortsOf E) graph (length bits) side g) n)
           (ap (λ (l : List ℕ). result (rowsAnswerBy (sortAnswer E) graph g bits (illRow (sortsOf E) graph (length bits) side g)) (l ∷ []))
           (lent-sort (ltb (badRow graph g) (rowCount graph g)) (ltb (badBit bits) (length bits)) (sortAnswer E) (badRow graph g) (badBit bits) (graphNumber graph)
           _ ws (widths (sortsOf E) graph (length bits) side g) n (sort-zeroes E)))

@@ -14,8 +14,8 @@ use Rattle.rows.specs.Row.{graphNumber, rowCount, ragged}
 use Rattle.refusals.specs.Rows.{rowsAnswerBy}
 use Rattle.wf.specs.Widths.{illRow, widths, badRoot}
 
--- "15, 18, 16, 17, then 1 or 2", over a lent list with room for some words, with 28 after 17 where an edition has a sort table (02, 2.9). "With Check's
--- places": 18 names the source's list by 1, the target's by 2
+-- "15, 18, 16, 17, then 1 or 2", over a lent list with room for some words, with 28 after 17 where an edition has a sort table (02, 2.9). "With
+-- Check's places": 18 names the source's list by 1, the target's by 2
 abbrev pub widthsAnswer : Edition → Graph → List ℕ → List ℕ → List ℕ → ℕ → Answer
 widthsAnswer E graph g bits side room =
     cond (ragged graph g) (RowCount (graphNumber graph))

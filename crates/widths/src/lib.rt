@@ -38,7 +38,7 @@ fn row_widths(
     let stop = wf::graph_wf(graph, g, bits.len() as u64, side, second, sorts, ws);
     if stop < n {
         lists::clear(ws);
-        return refusals::refusal(graph, g, bits, stop);
+        return refusals::refusal(Answer::Accepted, graph, g, bits, stop);
     }
     let bit = encoding::bad_bit(bits);
     if bit < bits.len() {
@@ -71,7 +71,7 @@ fn graph_widths(
     let sort = sorts::sort_answer(second, sorts);
     if !answers::is_accepted(sort) {
         lists::clear(ws);
-        return refusals::unsorted(sort, graph, g, bits);
+        return refusals::refusal(sort, graph, g, bits, 0);
     }
     row_widths(graph, g, bits, side, second, sorts, ws)
 }

@@ -32,9 +32,9 @@ row-count-requires c κs = search needs
 returns : tie.Need-returns
 returns c =
     let row = c .before .before in
-    let start = row .before .before .before .before .before in
+    let s = row .before .before .before .before .before in
     rw (row .bad-row .ensures)
-    (sym (bad-source (start .args .sort) (source start) (target start) _ _ (rw (row .bad-row .ensures, c .before .row-count .ensures) at (c .if1 .taken))))
+    (sym (bad-source (s .args .sort) (source s) (target s) _ _ (rw (row .bad-row .ensures, c .before .row-count .ensures) at (c .if1 .taken))))
 
 bad-row-requires-2 : tie.Need-bad-row-requires-2
 bad-row-requires-2 c κs = search needs
@@ -42,109 +42,121 @@ bad-row-requires-2 c κs = search needs
 row-count-requires-2 : tie.Need-row-count-requires-2
 row-count-requires-2 c κs = search needs
 
--- the source's rows are good; then the target's, the source's bits, the target's bits
-rows-0 : (c : tie.Else1) → rowCount Source (source (c .before .before .before .before .before .before .before) .rows) ≤ badRow Source (source (c .before .before .before .before .before .before .before) .rows)
+-- from the source's rows, which are good, to the start; from the target's rows, the source's bits, the target's bits and the table to what is before
+abbrev start : tie.Else1 → tie.Start
+start c = c .before .before .before .before .before .before .before
+
+abbrev rowed : tie.Else2 → tie.Else1
+rowed c = c .before .before .before
+
+abbrev bitted : tie.Else3 → tie.Else2
+bitted c = c .before .before
+
+abbrev coded : tie.Else4 → tie.Else3
+coded c = c .before .before
+
+abbrev tabled : tie.Else5 → tie.Else4
+tabled c = c .before .before
+
+-- what each of them says
+rows-0 : (c : tie.Else1) → rowCount Source (source (start c) .rows) ≤ badRow Source (source (start c) .rows)
 rows-0 c = rw (c .before .before .bad-row .ensures, c .before .row-count .ensures) at (c .if1 .left)
 
 returns-2 : tie.Need-returns-2
 returns-2 c =
     let row = c .before .before in
-    let start = row .before .before .before .before .before .before .before .before in
+    let s = start (row .before) in
     rw (row .bad-row2 .ensures)
-    (sym (bad-target (start .args .sort) (source start) (target start) _ _ (rows-0 (row .before))
+    (sym (bad-target (s .args .sort) (source s) (target s) _ _ (rows-0 (row .before))
     (rw (row .bad-row2 .ensures, c .before .row-count2 .ensures) at (c .if2 .taken))))
 
 bad-bit-requires : tie.Need-bad-bit-requires
 bad-bit-requires c κs = search needs
 
-rows-1 : (c : tie.Else2) → rowCount Target (target (c .before .before .before .before .before .before .before .before .before .before) .rows) ≤ badRow Target (target (c .before .before .before .before .before .before .before .before .before .before) .rows)
+rows-1 : (c : tie.Else2) → (let t = target (start (rowed c)) in rowCount Target (t .rows) ≤ badRow Target (t .rows))
 rows-1 c = rw (c .before .before .bad-row2 .ensures, c .before .row-count2 .ensures) at (c .if2 .left)
 
 returns-3 : tie.Need-returns-3
 returns-3 c =
     let rows = c .before .before in
-    let start = rows .before .before .before .before .before .before .before .before .before .before in
+    let s = start (rowed rows) in
     rw (c .before .bad-bit .ensures)
-    (sym (bit-source (start .args .sort) (source start) (target start) _ _ (rows-0 (rows .before .before .before)) (rows-1 rows)
+    (sym (bit-source (s .args .sort) (source s) (target s) _ _ (rows-0 (rowed rows)) (rows-1 rows)
     (rw (c .before .bad-bit .ensures) at (c .if3 .taken))))
 
 bad-bit-requires-2 : tie.Need-bad-bit-requires-2
 bad-bit-requires-2 c κs = search needs
 
-bits-0 : (c : tie.Else3) → length (source (c .before .before .before .before .before .before .before .before .before .before .before .before) .bits) ≤ badBit (source (c .before .before .before .before .before .before .before .before .before .before .before .before) .bits)
+bits-0 : (c : tie.Else3) → (let e = source (start (rowed (bitted c))) in length (e .bits) ≤ badBit (e .bits))
 bits-0 c = rw (c .before .bad-bit .ensures) at (c .if3 .left)
 
 returns-4 : tie.Need-returns-4
 returns-4 c =
     let bits = c .before .before in
-    let rows = bits .before .before in
-    let start = rows .before .before .before .before .before .before .before .before .before .before in
+    let rows = bitted bits in
+    let s = start (rowed rows) in
     rw (c .before .bad-bit2 .ensures)
-    (sym (bit-target (start .args .sort) (source start) (target start) _ _ (rows-0 (rows .before .before .before)) (rows-1 rows) (bits-0 bits)
+    (sym (bit-target (s .args .sort) (source s) (target s) _ _ (rows-0 (rowed rows)) (rows-1 rows) (bits-0 bits)
     (rw (c .before .bad-bit2 .ensures) at (c .if4 .taken))))
 
 is-accepted-requires : tie.Need-is-accepted-requires
 is-accepted-requires c κs = search needs
 
--- where all of them are good: the laws that come after
-abbrev coded : tie.Else4 → tie.Else2
-coded c = c .before .before .before .before
-
-bits-1 : (c : tie.Else4) → length (target (c .before .before .before .before .before .before .before .before .before .before .before .before .before .before) .bits) ≤ badBit (target (c .before .before .before .before .before .before .before .before .before .before .before .before .before .before) .bits)
+bits-1 : (c : tie.Else4) → (let t = target (start (rowed (bitted (coded c)))) in length (t .bits) ≤ badBit (t .bits))
 bits-1 c = rw (c .before .bad-bit2 .ensures) at (c .if4 .left)
 
 returns-5 : tie.Need-returns-5
 returns-5 c =
     let bits = c .before .before in
-    let rows = coded bits in
-    let start = rows .before .before .before .before .before .before .before .before .before .before in
-    sym (unsorted (start .args .sort) (source start) (target start) _ _ (rows-0 (rows .before .before .before)) (rows-1 rows) (bits-0 (bits .before .before)) (bits-1 bits)
+    let rows = bitted (coded bits) in
+    let s = start (rowed rows) in
+    sym (unsorted (s .args .sort) (source s) (target s) _ _ (rows-0 (rowed rows)) (rows-1 rows) (bits-0 (coded bits)) (bits-1 bits)
     (sym (c .before .is-accepted .ensures) ∙ not-true _ (c .if5 .taken)))
 
-sorted : (c : tie.Else5) → isAccepted (c .before .before .before .before .before .before .before .before .before .before .before .before .before .before .before .before .args .sort) ≡ true
+sorted : (c : tie.Else5) → isAccepted (start (rowed (bitted (coded (tabled c)))) .args .sort) ≡ true
 sorted c = sym (c .before .is-accepted .ensures) ∙ not-false _ (c .if5 .left)
 
 returns-6 : tie.Need-returns-6
 returns-6 c =
     let table = c .before in
-    let bits = table .before .before in
-    let rows = coded bits in
-    let start = rows .before .before .before .before .before .before .before .before .before .before in
+    let bits = tabled table in
+    let rows = bitted (coded bits) in
+    let s = start (rowed rows) in
     let row = rows .before .before .before .before .before in
-    let l = bad-row-le Source (start .args .source .now) in
+    let l = bad-row-le Source (s .args .source .now) in
     let h = rw (row .bad-row .ensures) at (c .if6 .taken) in
-    sym (ill-source (start .args .sort) (source start) (target start) _ _ (rows-0 (rows .before .before .before)) (rows-1 rows) (bits-0 (bits .before .before)) (bits-1 bits)
+    sym (ill-source (s .args .sort) (source s) (target s) _ _ (rows-0 (rowed rows)) (rows-1 rows) (bits-0 (coded bits)) (bits-1 bits)
     (sorted table) (omega arith))
 
 returns-7 : tie.Need-returns-7
 returns-7 c =
     let table = c .before .before in
-    let bits = table .before .before in
-    let rows = coded bits in
-    let start = rows .before .before .before .before .before .before .before .before .before .before in
+    let bits = tabled table in
+    let rows = bitted (coded bits) in
+    let s = start (rowed rows) in
     let row0 = rows .before .before .before .before .before in
     let row1 = rows .before .before in
-    let l = bad-row-le Target (start .args .target .now) in
+    let l = bad-row-le Target (s .args .target .now) in
     let h = rw (row1 .bad-row2 .ensures) at (c .if7 .taken) in
     let e = rw (row0 .bad-row .ensures) at (c .before .if6 .left) in
     let f = rows-0 (rows .before .before .before) in
     let g = rows-1 rows in
-    sym (ill-target (start .args .sort) (source start) (target start) _ _ f g (bits-0 (bits .before .before)) (bits-1 bits) (sorted table) (omega arith) (omega arith))
+    sym (ill-target (s .args .sort) (source s) (target s) _ _ f g (bits-0 (coded bits)) (bits-1 bits) (sorted table) (omega arith) (omega arith))
 
 returns-8 : tie.Need-returns-8
 returns-8 c =
     let table = c .before .before in
-    let bits = table .before .before in
-    let rows = coded bits in
-    let start = rows .before .before .before .before .before .before .before .before .before .before in
+    let bits = tabled table in
+    let rows = bitted (coded bits) in
+    let s = start (rowed rows) in
     let row0 = rows .before .before .before .before .before in
     let row1 = rows .before .before in
-    let l = bad-row-le Target (start .args .target .now) in
+    let l = bad-row-le Target (s .args .target .now) in
     let h = rw (row1 .bad-row2 .ensures) at (c .if7 .left) in
     let e = rw (row0 .bad-row .ensures) at (c .before .if6 .left) in
     let f = rows-0 (rows .before .before .before) in
     let g = rows-1 rows in
-    sym (graphs-good (start .args .sort) (source start) (target start) _ _ f g (bits-0 (bits .before .before)) (bits-1 bits) (sorted table) (omega arith) (omega arith))
+    sym (graphs-good (s .args .sort) (source s) (target s) _ _ f g (bits-0 (coded bits)) (bits-1 bits) (sorted table) (omega arith) (omega arith))
 
 pub graph-answer-spec : {M : Type 1} → statement M
 graph-answer-spec =

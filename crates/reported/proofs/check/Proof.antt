@@ -38,7 +38,7 @@ abbrev read : tie.After-check → tie.After-shared-slice-known12
 read c = c .before .before .before .before .before .before .before .before .before
 
 abbrev entry : tie.After-shared-slice-known12 → tie.Start
-entry c = c .before .before .before .before .before .before .before .before .before .before .before .before
+entry c = let lists = c .before .before .before .before .before .before in lists .before .before .before .before .before .before
 
 -- the lowering that the lists are
 abbrev input : tie.Start → Lowering

@@ -2,12 +2,13 @@
 use Prim.Native.Nat.{ℕ, _≤_}
 use mathlib.Core.Path.{_≡_, _∙_, sym, ap}
 use mathlib.Core.Bool.{true, false}
+use native.Mathlib.Omega.{arith}
 use borrow.Author.Tests.{not-true, not-false}
 use lib.ListN.{length}
 use Rattle.answers.specs.declared.Answer.{Answer}
-use Rattle.sorts.specs.Sorts.{Edition, edition, sortsOf}
+use Rattle.lists.proofs.Choice.{no-way}
+use Rattle.sorts.specs.Sorts.{Edition, edition}
 use Rattle.rows.specs.Row.{rowCount, ragged}
-use Rattle.wf.specs.Widths.{illRow}
 use Rattle.refusals.specs.Rows.{rowsAnswerBy}
 use Rattle.widths.proofs.Widths.{widths-15, widths-18, widths-28, widths-sorted}
 use borrow.Author.Needs.{needs}
@@ -63,10 +64,11 @@ is-accepted-requires c κs = search needs
 clear-requires : tie.Need-clear-requires
 clear-requires c κs = search needs
 
-unsorted-requires : tie.Need-unsorted-requires
-unsorted-requires c κs =
+refusal-requires : tie.Need-refusal-requires
+refusal-requires c κs =
     let then3 = c .before .before .before .before in
-    sym (then3 .before .is-accepted .ensures) ∙ not-true _ (then3 .if3 .taken)
+    let no = sym (then3 .before .is-accepted .ensures) ∙ not-true _ (then3 .if3 .taken) in
+    (omega arith, (λ j h. absurd (omega arith), λ e. no-way (sym e ∙ no)))
 
 same-length : tie.Need-same-length
 same-length c = search needs
@@ -78,10 +80,9 @@ returns-3 c =
     let table = then3 .before .before in
     let s = entry table .args in
     let no = sym (rw (table .sort-answer .ensures) at (then3 .before .is-accepted .ensures)) ∙ not-true _ (then3 .if3 .taken) in
-    let ill = illRow (sortsOf (of table)) (s .graph) (length (s .bits .now)) (s .side .now) (s .g .now) in
     rw (at-clear .clear .ensures)
-    (sym (widths-28 (of table) (s .graph) (s .g .now) (s .bits .now) (s .side .now) (s .ws .now) (whole table) (room table) no (c .unsorted .result)
-    (c .unsorted .ensures ill ∙ ap (λ (a : Answer). rowsAnswerBy a (s .graph) (s .g .now) (s .bits .now) ill) (table .sort-answer .ensures))))
+    (sym (widths-28 (of table) (s .graph) (s .g .now) (s .bits .now) (s .side .now) (s .ws .now) (whole table) (room table) no 0 (c .refusal .result)
+    (c .refusal .ensures ∙ ap (λ (a : Answer). rowsAnswerBy a (s .graph) (s .g .now) (s .bits .now) 0) (table .sort-answer .ensures))))
 
 row-widths-requires : tie.Need-row-widths-requires
 row-widths-requires c κs =
@@ -114,7 +115,7 @@ graph-widths-spec =
     sort-answer-requires
     is-accepted-requires
     clear-requires
-    unsorted-requires
+    refusal-requires
     same-length
     returns-3
     row-widths-requires

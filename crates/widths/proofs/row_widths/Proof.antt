@@ -37,9 +37,10 @@ refusal-requires c κs =
     let then1 = c .before .before .before .before in
     let at-graph-wf = then1 .before .before .before in
     let s = entry at-graph-wf .args in
-    let w = at-graph-wf .graph-wf in (
-      rw (at-graph-wf .before .before .row-count .ensures) at (then1 .if1 .taken),
-      λ j h. stop-good (sorts at-graph-wf) (s .graph) (length (s .bits .now)) (s .side .now) (s .g .now) j (rw (w .ensures .0) at h),
+    let w = at-graph-wf .graph-wf in
+    let before = rw (at-graph-wf .before .before .row-count .ensures) at (then1 .if1 .taken) in (
+      omega (arith, before),
+      (λ j h. stop-good (sorts at-graph-wf) (s .graph) (length (s .bits .now)) (s .side .now) (s .g .now) j (rw (w .ensures .0) at h), λ e. before),
     )
 
 same-length : tie.Need-same-length
