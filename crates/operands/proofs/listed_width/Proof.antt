@@ -1,6 +1,8 @@
 -- No operand, or an index and its array's sort: the definition there. Assumes nothing.
+use mathlib.Core.Path.{_≡_}
 use borrow.Author.Tests.{eq-eqb, ne-eqb}
 use borrow.Author.Needs.{needs}
+use Rattle.sorts.specs.Sorts.{edition, sortsOf}
 use Rattle.operands.proofs.listed_width.Statement.{statement}
 use Rattle.operands.proofs.listed_width.Tie as tie
 
@@ -12,6 +14,16 @@ returns c = rw (eq-eqb _ _ (c .before .if1 .taken)) (c .no-row .ensures)
 
 sort-of-requires : tie.Need-sort-of-requires
 sort-of-requires c κs = search needs
+
+-- the sort is that of the array in field 1
+abbrev entry : tie.After-sort-of → tie.Start
+entry c = c .before .before .before .before .before .before
+
+sort-is : (c : tie.After-sort-of)
+    → let s = entry c .args in
+    let σ = sortsOf (edition (s .second) (s .sorts .now)) in
+    (c .sort-of .result .index ≡ σ .index (s .f1)) × (c .sort-of .result .cell ≡ σ .cell (s .f1))
+sort-is c = c .sort-of .ensures
 
 chain-row-requires : tie.Need-chain-row-requires
 chain-row-requires c κs = search needs

@@ -1,12 +1,13 @@
 -- Check's outcome in words; its acceptance is sound, since owning the target's slice bounds its length. Assumes nothing.
 use Prim.Native.Nat.{_≤_}
-use mathlib.Core.Path.{ap}
+use mathlib.Core.Path.{_≡_, ap}
 use native.Mathlib.Omega.{arith}
 use lib.ListN.{length}
 use Rattle.sorts.specs.Sorts.{edition}
-use Rattle.answers.specs.Result.{toldOf}
+use Rattle.answers.specs.Result.{Result, toldOf}
 use Rattle.rows.specs.Row.{MAX}
 use Rattle.lowering.specs.Lowering.{Lowering, loweringIn}
+use Rattle.lowering.specs.Check.{checkBy}
 use Rattle.reported.proofs.Sound.{check-means}
 use borrow.Author.Needs.{needs}
 use Rattle.reported.proofs.check.Statement.{statement}
@@ -50,6 +51,13 @@ input c =
 -- owning the target's slice bounds its length
 slice : (c : tie.Start) → length (c .args .target .now) ≤ MAX
 slice c = omega (arith, c .good .1 .1 .1 .1 .1 .1 .1 .1 .1 .0 .0)
+
+-- the answer is this check's, on this edition
+answer-is : (c : tie.After-check)
+    → let s = entry (read c) in
+    let k = s .args in
+    c .check .result ≡ checkBy (k .strict) (input s) (k .ws0 .now) (k .ws1 .now) (k .classes .now) (k .entries .now) .answer
+answer-is c = ap (λ (r : Result). r .answer) (c .check .ensures)
 
 returns : tie.Need-returns
 returns c =
