@@ -89,6 +89,7 @@ mod sortlist;
 mod sortparts;
 mod sorts;
 mod sortspoil;
+mod sorttables;
 mod sources;
 mod spoil;
 mod statement;

@@ -5,8 +5,9 @@
 use crate::book::{self, Draft};
 use crate::bookshape::{contents, FIRST, SECOND};
 use crate::check::at;
+use crate::marked::Parts;
 use crate::operation::Lists;
-use crate::sortcases;
+use crate::sortparts::{lists, no_read, one_read, read_alone, OVER, SIXTEEN};
 
 const MAX: u64 = u64::MAX;
 
@@ -14,11 +15,7 @@ const MAX: u64 = u64::MAX;
 pub fn verdicts() -> Vec<Vec<u8>> {
     let mut books = misshapen();
     books.push(empty(SECOND).bytes());
-    books.extend(
-        sortcases::small()
-            .iter()
-            .map(|lists| book::draft(lists).bytes()),
-    );
+    books.extend(small().iter().map(|lists| book::draft(lists).bytes()));
     books
 }
 
@@ -27,8 +24,8 @@ pub fn strict_verdicts() -> Vec<Vec<u8>> {
     let mut books: Vec<Vec<u8>> = misshapen().into_iter().step_by(6).collect();
     books.push(left_over(SECOND, 1));
     books.push(empty(SECOND).bytes());
-    let rooted = sortcases::rooted();
-    let small = sortcases::small().into_iter().step_by(3).chain(rooted);
+    let rooted = rooted();
+    let small = small().into_iter().step_by(3).chain(rooted);
     books.extend(small.map(|lists| book::draft(&lists).bytes()));
     books
 }
@@ -112,4 +109,50 @@ fn each_list() -> Lists {
     lists[at::SOURCE_BITS] = vec![1, 0, 1];
     lists[at::TARGET_BITS] = vec![0, 1, 1, 0, 1];
     lists
+}
+
+/// Those for short books: a read, no read, an array not listed, and bad tables, alone and
+/// beside a bad bit; a read entry that nothing reaches, listed and not listed.
+fn small() -> Vec<Lists> {
+    let alone = || read_alone(SIXTEEN);
+    let bad_bit = Parts {
+        target_bits: vec![2],
+        ..no_read()
+    };
+    let cases: [(Parts, &[u64]); 13] = [
+        (one_read(SIXTEEN), &[7, 16, 16]),
+        (no_read(), &[]),
+        (no_read(), &[7, 16, OVER]),
+        (one_read(SIXTEEN), &[7, 16, OVER]),
+        (one_read(SIXTEEN), &[8, 16, 16]),
+        (alone(), &[8, 16, 16]),
+        (alone(), &[7, 16, 16]),
+        (alone(), &[7, 16, 8]),
+        (no_read(), &[7, 16]),
+        (no_read(), &[7, 16, 16, 7, 16, 16]),
+        (no_read(), &[0, 0, 1]),
+        (no_read(), &[0, 1, 1, 1, 1, 0]),
+        (bad_bit, &[7]),
+    ];
+    cases
+        .map(|(parts, table)| lists(parts, table.to_vec()))
+        .into()
+}
+
+/// The same with a root of 16 bits in either graph, beside a good table and a bad one.
+fn rooted() -> Vec<Lists> {
+    let [source, target] = [[vec![1], vec![2]], [vec![2], vec![1]]];
+    let of = |[source_roots, target_roots]: [Vec<u64>; 2], table: &[u64]| {
+        let parts = Parts {
+            source_roots,
+            target_roots,
+            ..one_read(SIXTEEN)
+        };
+        lists(parts, table.to_vec())
+    };
+    vec![
+        of(source.clone(), &[7, 16, 16]),
+        of(target, &[7, 16, 16]),
+        of(source, &[7, 0, 16]),
+    ]
 }

@@ -1,9 +1,23 @@
 //! Small lowerings over arrays of any shape, in parts: marked cases of the scope with other
 //! widths than 32 and 8, and arrays of two shapes beside each other.
 
-use crate::marked::Parts;
+use crate::check::at;
+use crate::marked::{lend, Parts};
+use crate::operation::Lists;
+use crate::rules::CEILING;
 use crate::sorts::Shape;
 use crate::tags::*;
+
+/// The shape of the new scale's memory, and a width above the ceiling.
+pub const SIXTEEN: Shape = [16, 16];
+pub const OVER: u64 = CEILING + 1;
+
+/// The lists of a lowering with this table, a word to spare in each lent one.
+pub fn lists(parts: Parts, table: Vec<u64>) -> Lists {
+    let mut lists = lend(parts);
+    lists.insert(at::SORTS, table);
+    lists
+}
 
 /// A read of array 7 at a variable, said to equal itself.
 pub fn one_read([index, cell]: Shape) -> Parts {
