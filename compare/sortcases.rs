@@ -9,7 +9,7 @@ use crate::operation::Lists;
 use crate::ours::Answer;
 use crate::rules::{answer, ACCEPTED, CEILING, SOURCE};
 use crate::sortparts::*;
-use crate::sorts::Shape;
+use crate::sorts::{Shape, FIRST};
 use crate::sorttables::{before, behind, tables, with_table};
 
 /// A case with its answer.
@@ -23,7 +23,8 @@ const MAX: u64 = u64::MAX;
 /// Those of Check, or of the strict check.
 pub fn known(strict: bool) -> Vec<Case> {
     let accepted = accepted().into_iter().map(|case| (case, ACCEPTED));
-    let mut cases: Vec<Case> = (accepted.chain(missing()).chain(of_other_widths()))
+    let unlisted = first_unlisted().into_iter().chain(missing());
+    let mut cases: Vec<Case> = (accepted.chain(unlisted).chain(of_other_widths()))
         .map(|((parts, table), answer)| (lists(parts, table), answer))
         .collect();
     cases.extend(
@@ -37,13 +38,15 @@ pub fn known(strict: bool) -> Vec<Case> {
 }
 
 /// Those for the fixed list: all tables and shapes, and of the others some, the scope's
-/// traps among them: a cell width of 4,097 and a bad bit of the target beside a bad table.
+/// traps among them: a cell width of 4,097, a bad bit of the target beside a bad table, and
+/// an empty table, which is not the first edition.
 pub fn listed() -> Vec<Case> {
-    let shaped = |of: Vec<(Sorted, Answer)>| of.into_iter().step_by(3);
+    let shaped = |of: Vec<(Sorted, Answer)>| of.into_iter().step_by(4);
     let shapes = accepted().into_iter().map(|case| (case, ACCEPTED));
     let trap = (one_read(SIXTEEN), vec![7, 16, OVER]);
     let cases = shapes
         .chain([(trap, answer(1, 1, 0))])
+        .chain(first_unlisted())
         .chain(shaped(missing()));
     let mut listed: Vec<Case> = (cases.chain(shaped(of_other_widths())))
         .map(|((parts, table), answer)| (lists(parts, table), answer))
@@ -132,6 +135,22 @@ pub fn accepted() -> Vec<Sorted> {
     cases.extend([vec![], vec![7, 16, 16]].map(|table| (Parts::default(), table)));
     cases.push((no_read(), vec![]));
     cases
+}
+
+/// Arrays of 32 and 8 that are not listed, in an empty table and in another: these two
+/// widths are no array's that is not.
+fn first_unlisted() -> Vec<(Sorted, Answer)> {
+    let cases = |table: &[u64]| {
+        let [select, read] = [one_read(FIRST), read_alone(FIRST)];
+        [
+            ((select, table.to_vec()), answer(1, 1, 0)),
+            ((read, table.to_vec()), answer(5, 0, 0)),
+        ]
+    };
+    [cases(&[]), cases(&[8, 32, 8])]
+        .into_iter()
+        .flatten()
+        .collect()
 }
 
 /// Arrays that are not listed: 1 at a Select, 5 at a read entry.
