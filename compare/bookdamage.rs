@@ -303,7 +303,7 @@ fn sized(random: &mut Random, from: From) -> Vec<u8> {
         2 => lists[at::SIDE].extend(vec![0; room]),
         3 => lists[at::ARGUMENTS].extend(vec![0; room]),
         _ if from.sections == SECOND => {
-            let last = lists[at::SORTS].chunks_exact(3).last();
+            let last = lists[at::SORTS].chunks_exact(3).next_back();
             let above = last.map_or(0, |entry| entry[0].saturating_add(1));
             let entry = |k: u64| [above.saturating_add(k), 16, 16];
             lists[at::SORTS].extend((0..room as u64 / 3).flat_map(entry));
