@@ -49,10 +49,10 @@ const CASES: [(&str, u64, Make); 14] = [
     ("1,000 pairs by 40 Selects, symbolic", 0, |_| {
         large::chains(40, 1_000, Index::Variables)
     }),
-    ("1,000 pairs by 200 Selects, constants", 0, |_| {
+    ("1,000 pairs, 200 Selects, constants", 0, |_| {
         large::chains(200, 1_000, Index::Counted)
     }),
-    ("50,000 Selects, 50,000 Calls, 1 array", 0, |_| {
+    ("50,000 Selects and as many Calls", 0, |_| {
         large::again(100_000)
     }),
     ("the same, 15 more listed", 15, |_| large::again(100_000)),
