@@ -19,6 +19,7 @@ pub mod Truths
 pub mod Accepted
 pub mod Choices
 pub mod Listed
+pub mod Editions
 pub mod Theorem
 pub mod Guards
 pub mod Model
