@@ -1,9 +1,9 @@
 -- A second edition whose table lists 32 and 8 for each array that the source's Selects and the read entries name is answered as the first edition: the
 -- answer and the lists, by either check (02, 2.9). Assumes nothing.
 use Prim.Native.Nat.{ℕ, zero, suc, _<_, _≤_}
-use mathlib.Core.Path.{_≡_, refl, sym, ap, ap₂, _∙_}
-use mathlib.Core.Bool.{Bool, cond, not}
-use mathlib.Core.List.{List, [], _∷_, _++_}
+use mathlib.Core.Path.{_≡_, refl, ap, _∙_}
+use mathlib.Core.Bool.{Bool, cond}
+use mathlib.Core.List.{List}
 use native.Mathlib.Omega.{arith}
 use lib.Dec.{eqb}
 use lib.ListN.{length}
@@ -17,10 +17,10 @@ use Rattle.rows.specs.declared.Node.{Node}
 use Rattle.rows.specs.declared.Node.the-variants.{Var, Const, Un, Bin, Extract, Extend, Ite, Select, Call, Unknown}
 use Rattle.rows.specs.Row.{rowCount, rowAt}
 use Rattle.rows.specs.Node.{nodeOf, operands}
-use Rattle.rules.specs.Rule.{capped, rule, earlier, nodeWidth}
+use Rattle.rules.specs.Rule.{capped, rule, earlier}
 use Rattle.wf.specs.Widths.{rowWidth, widthsTo, illRow, widths}
-use Rattle.lowering.specs.Tables.{readCount, readArray, readGood, readClasses, badRead}
-use Rattle.lowering.specs.Lowering.{Lowering, lowering, loweringIn, targetRows}
+use Rattle.lowering.specs.Tables.{readCount, readArray, readGood, badRead}
+use Rattle.lowering.specs.Lowering.{Lowering, lowering, loweringIn}
 use Rattle.lowering.specs.Check.{checkBy, noClasses, widthsOfTarget}
 
 -- 32 and 8

@@ -2,17 +2,17 @@
 -- makes its Select ill-formed", and "a read entry that names one is refused" (02, 2.9). Assumes nothing.
 use Prim.Native.Nat.{ℕ, _<_}
 use mathlib.Core.Path.{_≡_}
+use mathlib.Core.List.{[]}
+use native.Mathlib.Omega.{arith}
 use lib.ListN.{length, getD}
+use Rattle.sorts.specs.Sorts.{plain}
 use Rattle.rows.specs.declared.Node.the-variants.{Var, Select}
 use Rattle.wf.specs.Promise.{IsWidth, RowFormed}
 use Rattle.lowering.specs.Tables.{readCount, readVar, readArray}
 use Rattle.lowering.specs.Lowering.{Lowering, arraySorts, sourceRows}
 use Rattle.lowering.specs.Check.{widthsOfSource, widthsOfTarget}
-use Rattle.sorts.specs.Sorts.{plain}
-use mathlib.Core.List.{[]}
-use native.Mathlib.Omega.{arith}
 use Rattle.soundness.specs.Passed.{Passed}
-use Rattle.soundness.proofs.Facts.{S, T}
+use Rattle.soundness.proofs.Facts.{S}
 use Rattle.soundness.proofs.Formed.{formed}
 use Rattle.soundness.proofs.Tables.{read-facts, read-index}
 

@@ -9,7 +9,7 @@ use borrow.Author.Tests.{eqb-true, ltb-false, not-false}
 use lib.ListN.{length}
 use Rattle.answers.specs.declared.Answer.{Answer}
 use Rattle.lowering.specs.Lowering.{Lowering, sourceRows}
-use Rattle.lowering.specs.Check.{sourceIll, targetIll, widthsOfSource, widthsOfTarget, answerOf}
+use Rattle.lowering.specs.Check.{widthsOfSource, widthsOfTarget, answerOf}
 use Rattle.lowering.specs.Check.{countAnswers, formsOf, bitAnswers, formAnswers, matchAnswers}
 use Rattle.lowering.proofs.Inversion.{Each, each, each-append, not-refused, all-fail, all-pass, first-refused}
 use Rattle.soundness.specs.Sound.{AcceptsBy, StrictlyAccepts}
