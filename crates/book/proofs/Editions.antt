@@ -12,7 +12,7 @@ use Rattle.answers.specs.declared.Answer.{Answer}
 use Rattle.answers.specs.declared.Answer.the-variants.{Accepted, BookShape, NoSection}
 use Rattle.answers.specs.Answer.{andThen}
 use Rattle.lists.specs.First.{first}
-use Rattle.lists.proofs.First.{first-at}
+use Rattle.lists.proofs.First.{first-at, first-same}
 use Rattle.lists.proofs.Choice.{lt-or-ge}
 use Rattle.contents.specs.Contents.{startOf, lengthOf, isSecond, sections, contents, isBits}
 use Rattle.contents.proofs.Editions.{sections-first, sections-second, sections-low}
@@ -37,12 +37,6 @@ elevenAnswer b =
 
 abbrev pub elevenSection : List ℕ → ℕ → Answer
 elevenSection b number = cond (eqb number 0) NoSection (cond (ltb 11 number) NoSection (elevenAnswer b))
-
--- a search by two tests that agree
-first-same : (p q : ℕ → Bool) (n : ℕ) → ((i : ℕ) → p i ≡ q i) → first p n ≡ first q n
-unfolding first
-first-same p q zero e = refl
-first-same p q (suc n) e = rw (e 0, first-same (λ i. p (suc i)) (λ i. q (suc i)) n (λ i. e (suc i)))
 
 module _ (b : List ℕ) where
   -- "under 192 bytes is place 0"; 01's 176 in either edition
@@ -78,7 +72,7 @@ module _ (b : List ℕ) where
     bad-same i = ap (λ (k : ℕ). cond (not (eqb (startOf b i) k)) true (cond (ltb (length b) (endOf b i)) true (cond (isBits i) false (not (eqb (lengthOf b i % 8) 0))))) (due-same i)
 
     bad-first : firstBad b ≡ first (elevenBad b) 11
-    bad-first = ap (first (badSection b)) eleven ∙ first-same (badSection b) (elevenBad b) 11 bad-same
+    bad-first = ap (first (badSection b)) eleven ∙ first-same (badSection b) (elevenBad b) 11 (λ i h. bad-same i)
 
     same-answer : bookAnswer b ≡ elevenAnswer b
     same-answer = rw (bad-first, eleven, not-second)

@@ -1,5 +1,5 @@
 -- The outcome of a book's verdict, refusal by refusal. Assumes nothing.
-use Prim.Native.Nat.{ℕ, _+_, _-_, _≤_}
+use Prim.Native.Nat.{ℕ, _-_, _≤_}
 use mathlib.Core.Path.{_≡_, refl, sym, ap, ap₂, _∙_}
 use mathlib.Core.Bool.{Bool, true, false, cond}
 use mathlib.Core.List.{List, [], _∷_, _++_}
@@ -10,6 +10,7 @@ use Rattle.answers.specs.declared.Answer.{Answer}
 use Rattle.answers.specs.declared.Answer.the-variants.{WorkShort}
 use Rattle.answers.specs.Answer.{isAccepted, keeps, andThen}
 use Rattle.answers.specs.Result.{Result, result, left, leaves}
+use Rattle.answers.proofs.AndThen.{accepts-both}
 use Rattle.lists.proofs.Choice.{no-way}
 use Rattle.lowering.specs.Check.{refuse, firstRefusal, countAnswers, checkAnswerBy, checkBy}
 use Rattle.checker.proofs.Keeps.{keeps-count}
@@ -31,13 +32,6 @@ keeps-book b = go (ltb (length b) (contents b)) (ltb (firstBad b) (sections b)) 
     go false false false = refl
 
 -- two answers, the first of which counts where it refuses
-pub accepts-both : (a b : Answer) → isAccepted (andThen a b) ≡ true → (isAccepted a ≡ true) × (isAccepted b ≡ true)
-accepts-both a b e = go (isAccepted a) refl e
-  where
-    go : (t : Bool) → isAccepted a ≡ t → isAccepted (cond t b a) ≡ true → (isAccepted a ≡ true) × (isAccepted b ≡ true)
-    go true f g = (f, g)
-    go false f g = no-way (sym g ∙ f)
-
 refuses-one : (a b rest : Answer) → isAccepted (andThen a b) ≡ false → andThen a (andThen b rest) ≡ andThen a b
 refuses-one a b rest e = go (isAccepted a) refl e
   where

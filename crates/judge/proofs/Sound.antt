@@ -10,6 +10,7 @@ use lib.ListN.{length, replicate, length-replicate}
 use Rattle.answers.specs.declared.Answer.{Answer}
 use Rattle.answers.specs.declared.Answer.the-variants.{WorkShort, BookShape}
 use Rattle.answers.specs.Answer.{isAccepted, andThen, lent}
+use Rattle.answers.proofs.AndThen.{accepts-both}
 use Rattle.lists.proofs.Choice.{no-way}
 use Rattle.rows.specs.Row.{MAX}
 use Rattle.lowering.specs.Lowering.{Lowering, sourceRows, targetRows}
@@ -22,7 +23,6 @@ use Rattle.book.specs.Book.{bookAnswer}
 use Rattle.bodies.proofs.Words.{list-short}
 use Rattle.loaded.specs.Held.{held, bookWords}
 use Rattle.judge.specs.Judge.{longest, verdictBy, judgeBy}
-use Rattle.judge.proofs.Outcome.{accepts-both}
 
 -- the check accepts in lists of so many words
 accepts-in : (strict : Bool) (L : Lowering) (w0 w1 c e : ℕ) → isAccepted (checkAnswerBy strict L w0 w1 c e) ≡ true

@@ -71,6 +71,12 @@ none-at p n t j h = let e : first p n ≡ n = eqb-true (first p n) n t in first-
 pub first-past : (p : ℕ → Bool) (n i : ℕ) → i ≤ n → n ≤ i → ((j : ℕ) → j < i → p j ≡ false) → first p n ≡ i
 first-past p n i h l b = let e : n ≡ i = omega arith in rw e (first-none p i b)
 
+-- a search by two tests that agree
+pub first-same : (p q : ℕ → Bool) (n : ℕ) → ((i : ℕ) → i < n → p i ≡ q i) → first p n ≡ first q n
+unfolding first
+first-same p q zero e = refl
+first-same p q (suc n) e = rw (e 0 (omega arith), first-same (λ i. p (suc i)) (λ i. q (suc i)) n (λ i h. e (suc i) (omega arith)))
+
 -- a search that came to its end found nothing
 pub first-all : (p : ℕ → Bool) (n : ℕ) → n ≤ first p n → first p n ≡ n
 first-all p n h = le-antisymm (first-le p n) h

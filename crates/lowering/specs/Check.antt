@@ -118,6 +118,7 @@ graphAnswers sort S T ill0 ill1 =
     ∷ refuse (ltb ill1 (rowCount Target (T .rows))) (Core ill1)
     ∷ []
 
+-- those of an edition: "28 SortTable (first entry) for a cut, unsorted or zero-width entry", and "a Select takes its widths from there" (02, 2.9)
 abbrev pub formsOf : Edition → SourceGraph → TargetGraph → List Answer
 formsOf E S T = graphAnswers (sortAnswer E) S T (sourceIll (sortsOf E) S) (targetIll T)
 

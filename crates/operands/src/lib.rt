@@ -2,14 +2,14 @@
 // The fields that it does not use are 0, which is looked at here because its operands tell which they are.
 ghost use mathlib.Core.Path.{_≡_};
 ghost use lib.ListN.{getD};
-ghost use Rattle.sorts.specs.Sorts.{edition, sortsOf};
-ghost use Rattle.sorts.specs.Good.{Good};
+ghost use Rattle.sorts.specs.Sorts.{every};
 ghost use Rattle.rules.specs.Table.{rowAny, rowInBits, rowArguments, row0, rowOne, rowExtended, row1, rowPart, row2, row3, rowChain};
 ghost use Rattle.rules.specs.Table.{listedWidth, coreWidth, lineWidth};
 use rules::join;
 use rules::lines::Line;
 use rules::operand;
 use rules::source;
+use sorts::Sort;
 
 // No operand: field 1 alone is in use, and nothing is asked.
 fn any_row(from: u8, f1: u64, f2: u64, f3: u64, f4: u64) -> u64
@@ -186,7 +186,7 @@ fn chain_row(
     rules::width_index(from, iw, cw, ws[i])
 }
 
-// Rows that can have a side list.
+// Rows that can have a side list; a read's array has this sort.
 fn listed_width(
     line: Line,
     nbits: u64,
@@ -195,19 +195,16 @@ fn listed_width(
     f3: u64,
     f4: u64,
     side: &[u64],
-    second: bool,
-    sorts: &[u64],
+    sort: Sort,
     ws: &[u64],
 ) -> u64
-    requires { ⌜ Good (edition second (now sorts)) ⌝ }
-    ensures width { λ w. ⌜ w ≡ listedWidth (sortsOf (edition second (now (sorts .entry)))) nbits (now (side .entry))
-        (now (ws .entry)) line f1 f2 f3 f4 ⌝ }
+    ensures width { λ w. ⌜ w ≡ listedWidth (every (sort .index) (sort .cell)) nbits (now (side .entry)) (now (ws .entry)) line f1 f2 f3 f4 ⌝ }
 {
     if line.0 == operand::NONE {
-        return no_row(line, nbits, f1, f2, f3, f4, ws, side);
+        no_row(line, nbits, f1, f2, f3, f4, ws, side)
+    } else {
+        chain_row(line.1, line.2, sort.index, sort.cell, ws, side, f2, f3, f4)
     }
-    let sort = sorts::sort_of(second, sorts, f1);
-    chain_row(line.1, line.2, sort.index, sort.cell, ws, side, f2, f3, f4)
 }
 
 // The others; the last arm but one is looked at first.
@@ -223,22 +220,14 @@ fn core_width(line: Line, f1: u64, f2: u64, f3: u64, f4: u64, ws: &[u64]) -> u64
     }
 }
 
-// The width that a line gives a row after rows of widths ws, or 0 where it is ill-formed or a field that it does not use is not 0.
-pub fn line_width(
-    line: Line,
-    r: [u64; 5],
-    nbits: u64,
-    side: &[u64],
-    second: bool,
-    sorts: &[u64],
-    ws: &[u64],
-) -> u64
-    requires { ⌜ Good (edition second (now sorts)) ⌝ }
-    ensures width { λ w. ⌜ w ≡ lineWidth (sortsOf (edition second (now (sorts .entry)))) nbits (now (side .entry)) (now (ws .entry)) line
+// The width that a line gives a row after rows of widths ws, or 0 where it is ill-formed or a field that it does not use is not 0. The array of
+// a read has this sort.
+pub fn line_width(line: Line, r: [u64; 5], nbits: u64, side: &[u64], sort: Sort, ws: &[u64]) -> u64
+    ensures width { λ w. ⌜ w ≡ lineWidth (every (sort .index) (sort .cell)) nbits (now (side .entry)) (now (ws .entry)) line
         (getD r 1 0) (getD r 2 0) (getD r 3 0) (getD r 4 0) ⌝ }
 {
     if line.0 < operand::FIELD1 {
-        listed_width(line, nbits, r[1], r[2], r[3], r[4], side, second, sorts, ws)
+        listed_width(line, nbits, r[1], r[2], r[3], r[4], side, sort, ws)
     } else {
         core_width(line, r[1], r[2], r[3], r[4], ws)
     }

@@ -1,22 +1,21 @@
 -- What a good table gives: whole entries, rising arrays, widths above 0; where a search for an array ends. Assumes nothing.
-use Prim.Native.Nat.{ℕ, zero, suc, _+_, _*_, _/_, _<_, _≤_}
-use mathlib.Core.Path.{_≡_, refl, sym, ap, _∙_}
+use Prim.Native.Nat.{ℕ, zero, suc, _+_, _*_, _<_, _≤_}
+use mathlib.Core.Path.{_≡_, refl, sym, ap}
 use mathlib.Core.Bool.{Bool, true, false, cond, not}
-use mathlib.Core.List.{List, [], _∷_}
+use mathlib.Core.List.{List}
 use mathlib.Core.Logic.{⊎-elim}
 use native.Mathlib.Nat.{not-suc-le-zero}
 use native.Mathlib.Omega.{arith}
 use borrow.Author.Tests.{eq-eqb, ne-eqb, ltb-true, ltb-false, lt-ltb, le-ltb, leb-true, le-leb, lt-leb, not-false}
-use lib.Dec.{eqb, ltb, leb}
-use lib.ListN.{length, getD, List·getD-eq-default}
+use lib.Dec.{eqb, ltb}
+use lib.ListN.{length, List·getD-eq-default}
 use Rattle.answers.specs.declared.Answer.the-variants.{Accepted, SortTable}
 use Rattle.answers.specs.Answer.{isAccepted, keeps}
-use Rattle.lists.specs.First.{first}
 use Rattle.lists.specs.Tests.{all}
 use Rattle.lists.proofs.Choice.{no-way, lt-or-ge, last-test}
 use Rattle.lists.proofs.First.{first-at, first-none, first-before}
 use Rattle.lists.proofs.Tests.{all-true}
-use Rattle.sorts.specs.Sorts.{Edition, firstEdition, secondEdition, edition, sortsOf, sortAnswer, sortCount, arrayAt, indexAt, cellAt, entryOf}
+use Rattle.sorts.specs.Sorts.{Edition, firstEdition, secondEdition, sortAnswer, sortCount, arrayAt, indexAt, cellAt, entryOf}
 use Rattle.sorts.specs.Sorts.{rises, sortGood, badSort}
 use Rattle.sorts.specs.Good.{Good}
 

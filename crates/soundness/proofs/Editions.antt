@@ -8,7 +8,7 @@ use native.Mathlib.Omega.{arith}
 use lib.Dec.{eqb}
 use lib.ListN.{length}
 use Rattle.lists.specs.Build.{build}
-use Rattle.lists.specs.First.{first}
+use Rattle.lists.proofs.First.{first-same}
 use Rattle.sorts.specs.Sorts.{Sorts, secondEdition, plain, sortsOf}
 use Rattle.sorts.specs.Good.{Good}
 use Rattle.sorts.proofs.Sorts.{sort-accepted}
@@ -27,12 +27,7 @@ use Rattle.lowering.specs.Check.{checkBy, noClasses, widthsOfTarget}
 abbrev pub Plain : Sorts → ℕ → Type 0
 Plain σ a = (σ .index a ≡ 32) × (σ .cell a ≡ 8)
 
--- searches and lists built by two functions that agree
-first-same : (p q : ℕ → Bool) (n : ℕ) → ((i : ℕ) → i < n → p i ≡ q i) → first p n ≡ first q n
-unfolding first
-first-same p q zero e = refl
-first-same p q (suc n) e = rw (e 0 (omega arith), first-same (λ i. p (suc i)) (λ i. q (suc i)) n (λ i h. e (suc i) (omega arith)))
-
+-- a list built by two functions that agree
 build-same : (f g : ℕ → List ℕ → ℕ) (n : ℕ) → ((i : ℕ) → i < n → (ws : List ℕ) → f i ws ≡ g i ws) → build f n ≡ build g n
 unfolding build
 build-same f g zero e = refl

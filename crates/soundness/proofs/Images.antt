@@ -1,23 +1,22 @@
 -- Laws of rows: what a row that passes a test says. Assumes nothing.
 use Prim.Native.Nat.{ℕ, _<_}
-use mathlib.Core.Path.{_≡_, refl, _∙_}
+use mathlib.Core.Path.{_≡_}
 use mathlib.Core.Bool.{true}
 use mathlib.Core.List.{List}
 use borrow.Author.Tests.{eqb-true, ltb-true}
 use lib.Dec.{eqb}
 use lib.ListN.{getD}
-use Rattle.lists.proofs.Choice.{both}
 use Rattle.lists.proofs.Tests.{all-true, agree-at}
 use Rattle.bitwise.proofs.Digits.{ofBits-cong}
 use Rattle.rows.specs.declared.Graph.the-variants.{Target}
 use Rattle.rows.specs.declared.Node.{Node}
 use Rattle.rows.specs.declared.Node.the-variants.{Var, Const, Un, Bin, Extract, Extend, Ite, Select, Call, Unknown}
 use Rattle.rows.specs.Row.{rowCount, rowAt}
-use Rattle.rows.specs.Tags.{tVar, tIte, tEq, tNot, tBoolAnd, tBoolOr}
+use Rattle.rows.specs.Tags.{tVar, tIte, tNot, tBoolAnd, tBoolOr}
 use Rattle.rows.proofs.View.{TagGood}
 use Rattle.rows.specs.Node.{nodeOf}
 use Rattle.value.specs.Operate.{parameters, constNumber}
-use Rattle.lowering.specs.Images.{mapNode, rowOf, rowIs, tagAt, fieldAt, sameConst}
+use Rattle.lowering.specs.Images.{mapNode, tagAt, fieldAt, sameConst}
 use Rattle.lowering.specs.Matching.{isEq, isLevel}
 use Rattle.lowering.proofs.Images.{const-row, both-const}
 

@@ -1,2 +1,3 @@
 pub mod Stop
 pub mod Promise
+pub mod Parts

@@ -13,6 +13,7 @@ use Rattle.sorts.proofs.Sorts.{sort-zeroes, sort-accepted}
 use Rattle.answers.specs.declared.Answer.{Answer}
 use Rattle.answers.specs.declared.Answer.the-variants.{Accepted, RowCount, BadRow, BadBit, WorkShort}
 use Rattle.answers.specs.Answer.{isAccepted, andThen, keeps, lent}
+use Rattle.answers.proofs.AndThen.{accepts-both}
 use Rattle.answers.specs.Result.{Result, result, leaves}
 use Rattle.lists.proofs.Choice.{no-way}
 use Rattle.lists.proofs.Build.{build-length, build-front}
@@ -128,21 +129,13 @@ ill-refuses : (graph : Graph) (row : ℕ) → isAccepted (illFormed graph row) �
 ill-refuses Source row = refl
 ill-refuses Target row = refl
 
--- what comes after an answer that accepts, too
-after : (a next : Answer) → isAccepted (andThen a next) ≡ true → isAccepted next ≡ true
-after a next e = go (isAccepted a) refl e
-  where
-    go : (b : Bool) → isAccepted a ≡ b → isAccepted (cond b next a) ≡ true → isAccepted next ≡ true
-    go true q x = x
-    go false q x = no-way (sym x ∙ q)
-
 -- what 16, 17, 28 and 1 or 2 let pass
 pub rows-passed : (sort : Answer) (graph : Graph) (g bits : List ℕ) (ill : ℕ) → isAccepted (rowsAnswerBy sort graph g bits ill) ≡ true
     → (rowCount graph g ≤ badRow graph g) × (length bits ≤ badBit bits) × (rowCount graph g ≤ ill)
 rows-passed sort graph g bits ill e =
     let (rows, f) = unmet (ltb (badRow graph g) (rowCount graph g)) _ _ refl e in
     let (clean, h) = unmet (ltb (badBit bits) (length bits)) _ _ refl f in
-    let (formed, _) = unmet (ltb ill (rowCount graph g)) _ _ (ill-refuses graph ill) (after sort _ h) in
+    let (formed, _) = unmet (ltb ill (rowCount graph g)) _ _ (ill-refuses graph ill) (accepts-both sort _ h .1) in
     (ltb-false _ _ rows, ltb-false _ _ clean, ltb-false _ _ formed)
 
 pub rows-accepted : (graph : Graph) (g bits : List ℕ) (ill : ℕ) → isAccepted (rowsAnswer graph g bits ill) ≡ true → rowsAnswer graph g bits ill ≡ Accepted

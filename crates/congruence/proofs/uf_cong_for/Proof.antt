@@ -5,7 +5,6 @@ use mathlib.Core.Bool.{Bool}
 use mathlib.Core.Logic.{⊎-elim}
 use native.Mathlib.Omega.{arith}
 use borrow.Author.Needs.{needs}
-use borrow.Author.Tests.{not-true, not-false}
 use lib.ListN.{length}
 use Rattle.lowering.specs.Tables.{callCount, callFunction, callStart, argCount, resultWidth, sameFunction}
 use Rattle.lowering.specs.Roots.{pair, callRoot, rootAt}

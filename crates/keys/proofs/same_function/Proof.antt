@@ -1,7 +1,6 @@
 -- Number, count and result, then the arguments' widths: the definition's order. Assumes nothing.
 use Prim.Native.Nat.{_+_}
-use mathlib.Core.Path.{_≡_, _∙_, sym, ap}
-use mathlib.Core.Bool.{true}
+use mathlib.Core.Path.{_≡_, _∙_, sym}
 use borrow.Author.Tests.{eqb-true, not-true, not-false}
 use lib.ListN.{getD}
 use Rattle.lists.proofs.Tests.{all-true}

@@ -1,6 +1,6 @@
 -- The first entry, then two entries. Assumes nothing.
 use Prim.Native.Nat.{ℕ, zero, suc, _*_, _-_, _<_}
-use mathlib.Core.Path.{_≡_, refl, sym, ap}
+use mathlib.Core.Path.{_≡_, ap}
 use mathlib.Core.List.{List}
 use native.Mathlib.Omega.{arith}
 use borrow.Author.Needs.{needs}
