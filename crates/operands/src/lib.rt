@@ -2,7 +2,7 @@
 // The fields that it does not use are 0, which is looked at here because its operands tell which they are.
 ghost use mathlib.Core.Path.{_≡_};
 ghost use lib.ListN.{getD};
-ghost use Rattle.sorts.specs.Sorts.{every};
+ghost use Rattle.sorts.specs.Every.{every};
 ghost use Rattle.rules.specs.Table.{rowAny, rowInBits, rowArguments, row0, rowOne, rowExtended, row1, rowPart, row2, row3, rowChain};
 ghost use Rattle.rules.specs.Table.{listedWidth, coreWidth, lineWidth};
 use rules::join;

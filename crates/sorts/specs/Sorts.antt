@@ -40,14 +40,10 @@ abbrev pub edition : Bool → List ℕ → Edition
 edition false table = firstEdition
 edition true table = secondEdition table
 
--- one sort for all arrays
-abbrev pub every : ℕ → ℕ → Sorts
-every iw cw = record { index = λ array. iw; cell = λ array. cw }
-
 -- "Select needs an index of width 32 and, per pair in the side list, an index row of width 32 and a value row of width 8; its width is 8". A target
 -- has no Select, so that its rows have the same widths under any sorts; these are named for it
 abbrev pub plain : Sorts
-plain = every 32 8
+plain = record { index = λ array. 32; cell = λ array. 8 }
 
 -- "the first edition, 32 and 8 for every array"; in the second "a Select takes its widths from there"
 abbrev pub sortsOf : Edition → Sorts

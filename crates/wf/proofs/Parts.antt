@@ -9,7 +9,8 @@ use lib.Dec.{eqb, ltb}
 use lib.ListN.{getD, drop}
 use Rattle.lists.proofs.First.{first-at, first-past}
 use Rattle.lists.proofs.Build.{build-start}
-use Rattle.sorts.specs.Sorts.{Sorts, every}
+use Rattle.sorts.specs.Sorts.{Sorts}
+use Rattle.sorts.specs.Every.{every}
 use Rattle.rows.specs.declared.Graph.{Graph}
 use Rattle.rows.specs.declared.Node.{Node}
 use Rattle.rows.specs.Row.{rowCount, rowAt}

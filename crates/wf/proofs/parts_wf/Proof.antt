@@ -44,32 +44,30 @@ array-read-sort-of c = search needs
 sort-of-requires : tie.Need-sort-of-requires Inv-loop μ-loop
 sort-of-requires c κs = search needs
 
+-- from where a part's pass is called: the turn of the loop, and where the function was entered
+abbrev turn : tie.After-rows-wf-arg Inv-loop μ-loop → tie.At-loop Inv-loop μ-loop
+turn c = c .before .before .before .before .before
+
+abbrev entry : tie.After-rows-wf-arg Inv-loop μ-loop → tie.Start Inv-loop μ-loop
+entry c = turn c .before .before .before .before .before .before .before
+
 rows-wf-requires : tie.Need-rows-wf-requires Inv-loop μ-loop
 rows-wf-requires c κs =
     let place = c .before .before .part-end .ensures .0 in
-    let l = c .before .before .before .before .before .loop in
-    let room = c .before .before .before .before .before .before .before .before .before .before .before .before .pre .1 in
-    (c .before .before .before .before .before .before .all-lines .ensures, (omega (arith, place .0), place .1, omega (arith, l .inv .1 .whole, room)))
-
--- from a part's pass: its turn of the loop, and where the function was entered
-abbrev turn : tie.After-rows-wf Inv-loop μ-loop → tie.At-loop Inv-loop μ-loop
-turn c = c .before .before .before .before .before .before
-
-abbrev entry : tie.After-rows-wf Inv-loop μ-loop → tie.Start Inv-loop μ-loop
-entry c = turn c .before .before .before .before .before .before .before
+    (turn c .before .all-lines .ensures, (omega (arith, place .0), place .1, omega (arith, turn c .loop .inv .1 .whole, entry c .pre .1)))
 
 -- the pass is where the part's is, and stops if that does
 part : (c : tie.After-rows-wf Inv-loop μ-loop)
-    → let s = entry c .args in
+    → let s = entry (c .before) .args in
     let σ = sortsOf (edition true (s .sorts .now)) in
     let k = c .rows-wf .result in
     Reached σ (s .graph) (s .nbits) (s .side .now) (s .g .now) (s .ws .now) (c .rows-wf .last .1 .1 .1 .1 .1 .1 .1 .1 .0) k
     × (k < c .before .before .before .part-end .result → rowStops σ (s .graph) (s .nbits) (s .side .now) (s .g .now) k ≡ true)
 part c =
-    let s = entry c .args in
+    let s = entry (c .before) .args in
     let σ = sortsOf (edition true (s .sorts .now)) in
     let one = one-array σ (s .graph) (s .g .now) _ _ _ _ _ (c .before .before .before .part-end .ensures .1) (c .before .before .sort-of .ensures) in
-    c .rows-wf .ensures .1 σ (s .ws .now) one (turn c .loop .inv .1)
+    c .rows-wf .ensures .1 σ (s .ws .now) one (turn (c .before) .loop .inv .1)
 
 same-length : tie.Need-same-length Inv-loop μ-loop
 same-length c = search needs

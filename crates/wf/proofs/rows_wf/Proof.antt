@@ -13,7 +13,8 @@ use Rattle.lists.specs.Build.{build}
 use Rattle.lists.proofs.Build.{build-front, build-store}
 use Rattle.encoding.specs.Encoding.{tagCount}
 use Rattle.encoding.proofs.Encoding.{tags-in}
-use Rattle.sorts.specs.Sorts.{Sorts, every}
+use Rattle.sorts.specs.Sorts.{Sorts}
+use Rattle.sorts.specs.Every.{every}
 use Rattle.rules.specs.Rule.{capped}
 use Rattle.rules.proofs.Rule.{capped-in, capped-over}
 use Rattle.wf.proofs.Stop.{good-width, line-good}
