@@ -7,6 +7,11 @@ ghost use mathlib.Core.Bool.{true};
 ghost use Rattle.sorts.specs.Good.{Good};
 use answers::Answer;
 
+// The widths of every array in a first edition, of its index and of its cells.
+pub const INDEX_WIDTH: u64 = 32;
+
+pub const CELL_WIDTH: u64 = 8;
+
 // The widths of an array's index and of its cells.
 pub struct Sort {
     pub index: u64,
@@ -110,5 +115,8 @@ pub fn sort_of(second: bool, table: &[u64], array: u64) -> Sort
     if second {
         return listed(table, array);
     }
-    Sort { index: 32, cell: 8 }
+    Sort {
+        index: INDEX_WIDTH,
+        cell: CELL_WIDTH,
+    }
 }

@@ -14,6 +14,8 @@ ghost use Rattle.wf.specs.Pass.{rowStops, stopRow, OneSort, Reached};
 use rows::Graph;
 use rows::tag;
 use rules::lines::Line;
+use sorts::CELL_WIDTH;
+use sorts::INDEX_WIDTH;
 use sorts::Sort;
 
 // No width passes it.
@@ -144,7 +146,10 @@ pub fn graph_wf(
         return parts_wf(graph, g, nbits, side, sorts, ws);
     }
     let n = rows::row_count(graph, g);
-    let plain = Sort { index: 32, cell: 8 };
+    let plain = Sort {
+        index: INDEX_WIDTH,
+        cell: CELL_WIDTH,
+    };
     rows_wf(
         rules::lines::all_lines(),
         graph,
