@@ -128,8 +128,8 @@ class Table(unittest.TestCase):
 
 
 class Text(unittest.TestCase):
-    def test_lines_of_code_and_definitions(self):
-        for path in files("src", "specs"):
+    def test_lines(self):
+        for path in files("src", "specs", "proofs"):
             for number, line in enumerate(read(path).split("\n"), 1):
                 self.assertLessEqual(len(line), 150, f"{short(path)}:{number}")
 

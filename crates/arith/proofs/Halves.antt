@@ -2,7 +2,8 @@
 use Prim.Native.Nat.{ℕ, _<_, _+_, _*_, _/_, _%_, _^_}
 use mathlib.Core.Path.{_≡_, sym}
 use native.Mathlib.Omega.{arith}
-use native.Mathlib.Nat.{add-mul, mul-add, mul-assoc, mul-mul-mul-comm, mul-right-comm, div-add-mod', lt-of-le-of-lt, le-of-lt, mul-le-mul-left, mul-lt-mul-of-pos-right}
+use native.Mathlib.Nat.{add-mul, mul-add, mul-assoc, mul-mul-mul-comm, mul-right-comm, div-add-mod', lt-of-le-of-lt, le-of-lt, mul-le-mul-left}
+use native.Mathlib.Nat.{mul-lt-mul-of-pos-right}
 use lib.Pow.{pow-pos}
 
 -- the product of two halves is a word

@@ -2,7 +2,8 @@
 use Prim.Native.Nat.{ℕ, zero, suc, _≤_, _<_, _+_, _-_, _*_, _/_, _%_, _^_}
 use mathlib.Core.Path.{_≡_, sym, ap, _∙_}
 use native.Mathlib.Omega.{arith}
-use native.Mathlib.Nat.{div-one, mod-one, mod-lt, mul-one, add-zero, add-comm, zero-mul, add-mul, mul-assoc, mul-right-comm, pow-suc, pow-succ', div-div-eq-div-mul, mul-add-div-right, mul-add-mod-self-right, mod-eq-of-lt, div-eq-of-lt, sub-add-cancel}
+use native.Mathlib.Nat.{div-one, mod-one, mod-lt, mul-one, add-zero, add-comm, zero-mul, add-mul, mul-assoc, mul-right-comm, pow-suc, pow-succ'}
+use native.Mathlib.Nat.{div-div-eq-div-mul, mul-add-div-right, mul-add-mod-self-right, mod-eq-of-lt, div-eq-of-lt, sub-add-cancel}
 use lib.Arith.{mod-mul, digits-lt}
 use lib.Pow.{pow-pos, pow-add, split, field, shr-lt, shr-shr, shl-exact, mod-mod-pow}
 use lib.Bits.{bitOr, or-shifted}

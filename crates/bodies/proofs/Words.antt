@@ -90,7 +90,8 @@ module _ (bytes old : List ℕ) where
   pub read-more : (out : List ℕ) (j x : ℕ) → out ≡ read j → x ≡ wordAt bytes (8 * j) → j < length old → set out j x ≡ read (j + 1)
   read-more out j x e w h = rw (e, w) (build-store (λ (k : ℕ) (before : List ℕ). wordAt bytes (8 * k)) old 0 j h)
 
-  pub read-all : (out : List ℕ) (j n : ℕ) → n ≡ length bytes / 8 → j ≤ n → n ≤ j → out ≡ read j → out ≡ wordsOfBytes bytes ++ drop (length bytes / 8) old
+  pub read-all : (out : List ℕ) (j n : ℕ) → n ≡ length bytes / 8 → j ≤ n → n ≤ j → out ≡ read j
+      → out ≡ wordsOfBytes bytes ++ drop (length bytes / 8) old
   read-all out j n e h l f = let k : j ≡ length bytes / 8 = omega arith in f ∙ ap read k
 
 -- where a section's words stand among all
@@ -118,21 +119,25 @@ module _ (b : List ℕ) where
   loaded-below n i h =
       let e : n ≡ suc i + (n - suc i) = omega arith in
       let r = later (n - suc i) i in
-      let a : length (loaded b n) ≡ length (loaded b i) + (length (listOf b i) + length (r .0)) = ap (λ (k : ℕ). length (loaded b k)) e ∙ rw (r .1, length-append, length-append) in
+      let a : length (loaded b n) ≡ length (loaded b i) + (length (listOf b i) + length (r .0)) =
+      ap (λ (k : ℕ). length (loaded b k)) e ∙ rw (r .1, length-append, length-append) in
       omega arith
 
   pub list-within : (n i : ℕ) (rest : List ℕ) → i < n → take (length (listOf b i)) (drop (length (loaded b i)) (loaded b n ++ rest)) ≡ listOf b i
   list-within n i rest h =
       let e : n ≡ suc i + (n - suc i) = omega arith in
       let r = later (n - suc i) i in
-      let a : loaded b n ++ rest ≡ loaded b i ++ (listOf b i ++ (r .0 ++ rest)) = ap (λ (l : List ℕ). l ++ rest) (ap (loaded b) e ∙ r .1) ∙ rw (append-assoc, append-assoc) in
-      rw (a, drop-at (loaded b i) (listOf b i ++ (r .0 ++ rest)) (length (loaded b i)) refl) (take-at (listOf b i) (r .0 ++ rest) (length (listOf b i)) refl)
+      let a : loaded b n ++ rest ≡ loaded b i ++ (listOf b i ++ (r .0 ++ rest)) =
+      ap (λ (l : List ℕ). l ++ rest) (ap (loaded b) e ∙ r .1) ∙ rw (append-assoc, append-assoc) in
+      rw (a, drop-at (loaded b i) (listOf b i ++ (r .0 ++ rest)) (length (loaded b i)) refl)
+      (take-at (listOf b i) (r .0 ++ rest) (length (listOf b i)) refl)
 
 -- a list that is changed from a place on: a front part in place of the first k there
 mid-whole : (a : ℕ) (xs : List ℕ) → a ≤ length xs → midOf a (length xs - a) xs ≡ drop a xs
 mid-whole a xs h =
     let p : postOf a (length xs - a) xs ≡ [] = post-is a (length xs) xs h ∙ drop-length xs in
-    sym (append-nil (midOf a (length xs - a) xs)) ∙ ap (λ (l : List ℕ). midOf a (length xs - a) xs ++ l) (sym p) ∙ take-append-drop (length xs - a) (drop a xs)
+    sym (append-nil (midOf a (length xs - a) xs)) ∙ ap (λ (l : List ℕ). midOf a (length xs - a) xs ++ l) (sym p)
+    ∙ take-append-drop (length xs - a) (drop a xs)
 
 put-front : (a k : ℕ) (xs ys front : List ℕ) → a ≤ length xs → ys ≡ front ++ drop k (midOf a (length xs - a) xs)
     → putMid a (length xs - a) xs ys ≡ take a xs ++ (front ++ drop (a + k) xs)
@@ -154,7 +159,8 @@ module _ (b : List ℕ) (i : ℕ) (old : List ℕ) where
   pub bits-joined : isBits i ≡ true → old ≡ joined
   bits-joined t = let l : listOf b i ≡ [] = rw t in rw (l, add-zero) (sym (take-append-drop n old))
 
-  module _ (g : Good b) (h : i < sections b) (r : n + m ≤ length old) (at : ℕ) (e : at ≡ n) (bytes : List ℕ) (f : bytes ≡ body b i) (t : isBits i ≡ false) where
+  module _ (g : Good b) (h : i < sections b) (r : n + m ≤ length old) (at : ℕ) (e : at ≡ n) (bytes : List ℕ) (f : bytes ≡ body b i)
+      (t : isBits i ≡ false) where
     words-are : wordsOfBytes bytes ≡ listOf b i
     words-are = rw (t, f)
 
@@ -167,7 +173,8 @@ module _ (b : List ℕ) (i : ℕ) (old : List ℕ) where
         let q : length bytes / 8 ≡ m = eighth in
         omega arith
 
-    pub words-joined : (ys : List ℕ) → ys ≡ wordsOfBytes bytes ++ drop (length bytes / 8) (midOf at (length old - at) old) → putMid at (length old - at) old ys ≡ joined
+    pub words-joined : (ys : List ℕ) → ys ≡ wordsOfBytes bytes ++ drop (length bytes / 8) (midOf at (length old - at) old)
+        → putMid at (length old - at) old ys ≡ joined
     words-joined ys q = put-front at (length bytes / 8) old ys (wordsOfBytes bytes) (omega arith) q ∙ rw (words-are, eighth, e)
 
 -- sections loaded one after the other
@@ -191,7 +198,10 @@ module _ (b old : List ℕ) where
 
   -- what stands after the words is what stood there
   pub filled-rest : (i : ℕ) (ws : List ℕ) → ws ≡ filled i → ws ≡ loaded b i ++ drop (length (loaded b i)) ws
-  filled-rest i ws e = let r : drop (length (loaded b i)) ws ≡ drop (length (loaded b i)) old = rw e (drop-at (loaded b i) (drop (length (loaded b i)) old) (length (loaded b i)) refl) in e ∙ ap (λ (l : List ℕ). loaded b i ++ l) (sym r)
+  filled-rest i ws e =
+      let r : drop (length (loaded b i)) ws ≡ drop (length (loaded b i)) old =
+      rw e (drop-at (loaded b i) (drop (length (loaded b i)) old) (length (loaded b i)) refl) in
+      e ∙ ap (λ (l : List ℕ). loaded b i ++ l) (sym r)
 
 -- the part of a list where section i + 1's words stand
 pub record Part (b : List ℕ) (i : ℕ) (ws : List ℕ) (from end : ℕ) : Type 0 where
@@ -199,7 +209,8 @@ pub record Part (b : List ℕ) (i : ℕ) (ws : List ℕ) (from end : ℕ) : Type
   pub inside : end ≤ length ws
   pub part-is : take (end - from) (drop from ws) ≡ listOf b i
 
-pub part : (b ws : List ℕ) (i from end : ℕ) → i < sections b → ws ≡ loaded b (sections b) ++ drop (length (loaded b (sections b))) ws → from ≡ length (loaded b i) → end ≡ length (loaded b (i + 1))
+pub part : (b ws : List ℕ) (i from end : ℕ) → i < sections b → ws ≡ loaded b (sections b) ++ drop (length (loaded b (sections b))) ws
+    → from ≡ length (loaded b i) → end ≡ length (loaded b (i + 1))
     → Part b i ws from end
 part b ws i from end h e f g =
     let r = drop (length (loaded b (sections b))) ws in
@@ -214,7 +225,8 @@ part b ws i from end h e f g =
     }
 
 -- a list that holds a book's words has room for them
-pub words-inside : (b ws : List ℕ) → ws ≡ loaded b (sections b) ++ drop (length (loaded b (sections b))) ws → length (loaded b (sections b)) ≤ length ws
+pub words-inside : (b ws : List ℕ) → ws ≡ loaded b (sections b) ++ drop (length (loaded b (sections b))) ws
+    → length (loaded b (sections b)) ≤ length ws
 words-inside b ws e =
     let r = drop (length (loaded b (sections b))) ws in
     let l : length ws ≡ length (loaded b (sections b)) + length r = ap (λ (l : List ℕ). length l) e ∙ length-append (loaded b (sections b)) r in

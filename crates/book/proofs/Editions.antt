@@ -69,7 +69,9 @@ module _ (b : List ℕ) where
     due-same (suc i) = refl
 
     bad-same : (i : ℕ) → badSection b i ≡ elevenBad b i
-    bad-same i = ap (λ (k : ℕ). cond (not (eqb (startOf b i) k)) true (cond (ltb (length b) (endOf b i)) true (cond (isBits i) false (not (eqb (lengthOf b i % 8) 0))))) (due-same i)
+    bad-same i =
+        ap (λ (k : ℕ). cond (not (eqb (startOf b i) k)) true (cond (ltb (length b) (endOf b i)) true
+        (cond (isBits i) false (not (eqb (lengthOf b i % 8) 0))))) (due-same i)
 
     bad-first : firstBad b ≡ first (elevenBad b) 11
     bad-first = ap (first (badSection b)) eleven ∙ first-same (badSection b) (elevenBad b) 11 (λ i h. bad-same i)

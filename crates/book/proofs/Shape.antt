@@ -70,7 +70,8 @@ pub record Book (b : List ℕ) : Type 0 where
 pub good-book : (b : List ℕ) → Good b → Book b
 good-book b = go (ltb (length b) (contents b)) refl (ltb (firstBad b) (sections b)) refl (eqb (dueAt b (sections b)) (length b)) refl
   where
-    go : (s : Bool) → ltb (length b) (contents b) ≡ s → (f : Bool) → ltb (firstBad b) (sections b) ≡ f → (d : Bool) → eqb (dueAt b (sections b)) (length b) ≡ d
+    go : (s : Bool) → ltb (length b) (contents b) ≡ s → (f : Bool) → ltb (firstBad b) (sections b) ≡ f → (d : Bool)
+        → eqb (dueAt b (sections b)) (length b) ≡ d
         → isAccepted (shape-by b s f d) ≡ true → Book b
     go true e f g d h n = no-way (sym n)
     go false e true g d h n = no-way (sym n)
@@ -78,7 +79,8 @@ good-book b = go (ltb (length b) (contents b)) refl (ltb (firstBad b) (sections 
     go false e false g true h n =
         record {
           long = ltb-false _ _ e;
-          each = λ i l. good-section b i (first-before (badSection b) (sections b) i (let k : sections b ≤ firstBad b = ltb-false _ _ g in omega arith));
+          each =
+              λ i l. good-section b i (first-before (badSection b) (sections b) i (let k : sections b ≤ firstBad b = ltb-false _ _ g in omega arith));
           ends = eqb-true _ _ h;
         }
 
@@ -166,7 +168,8 @@ pub record Numbered (b : List ℕ) (number : ℕ) : Type 0 where
 pub numbered : (b : List ℕ) (number : ℕ) → isAccepted (sectionAnswer b number) ≡ true → Numbered b number
 numbered b number = go (eqb number 0) refl (ltb 12 number) refl (isAccepted (bookAnswer b)) refl (ltb (sections b) number) refl
   where
-    go : (z : Bool) → eqb number 0 ≡ z → (m : Bool) → ltb 12 number ≡ m → (t : Bool) → isAccepted (bookAnswer b) ≡ t → (x : Bool) → ltb (sections b) number ≡ x
+    go : (z : Bool) → eqb number 0 ≡ z → (m : Bool) → ltb 12 number ≡ m → (t : Bool) → isAccepted (bookAnswer b) ≡ t → (x : Bool)
+        → ltb (sections b) number ≡ x
         → isAccepted (cond z NoSection (cond m NoSection (cond t (cond x NoSection Accepted) (bookAnswer b)))) ≡ true → Numbered b number
     go true e m f t g x h a = no-way (sym a)
     go false e true f t g x h a = no-way (sym a)
@@ -181,6 +184,7 @@ numbered b number = go (eqb number 0) refl (ltb 12 number) refl (isAccepted (boo
 pub place-is : (b : List ℕ) (number : ℕ) → section b number ≡ take (sectionPlace b number .length) (drop (sectionPlace b number .start) b)
 place-is b number = go (isAccepted (sectionAnswer b number)) refl
   where
-    go : (t : Bool) → isAccepted (sectionAnswer b number) ≡ t → section b number ≡ take (sectionPlace b number .length) (drop (sectionPlace b number .start) b)
+    go : (t : Bool) → isAccepted (sectionAnswer b number) ≡ t
+        → section b number ≡ take (sectionPlace b number .length) (drop (sectionPlace b number .start) b)
     go true e = rw e
     go false e = rw e

@@ -1,7 +1,8 @@
 -- Worked values of the definitions: 01's marked case 12, and values of the theory. Assumes nothing.
 use mathlib.Core.Path.{_≡_, refl}
 use Rattle.bv.specs.Bits.{ofBits}
-use Rattle.bv.specs.Bv.{bvnot, bvand, bvor, bvxor, bvneg, bvadd, bvsub, bvmul, bvudiv, bvurem, bvsdiv, bvsrem, bvshl, bvlshr, bvashr, bvrotr, bvrotl, concat, extract, sign-extend, bvslt, bvult, rotate-right, rotate-left}
+use Rattle.bv.specs.Bv.{bvnot, bvand, bvor, bvxor, bvneg, bvadd, bvsub, bvmul, bvudiv, bvurem, bvsdiv, bvsrem, bvshl, bvlshr, bvashr, bvrotr}
+use Rattle.bv.specs.Bv.{bvrotl, concat, extract, sign-extend, bvslt, bvult, rotate-right, rotate-left}
 
 case-12-sdiv-least : bvsdiv 8 128 255 ≡ 128
 case-12-sdiv-least = refl

@@ -9,7 +9,8 @@ use borrow.Author.Tests.{le-leb, lt-leb, ltb-true, ltb-false, eqb-true, eqb-fals
 use lib.Dec.{eqb, ltb, leb}
 use lib.Pow.{pow-pos, pow-add, shr-shr, shr-mod, high, field, mod-mod-pow}
 use Rattle.bv.specs.Bits.{bit, ofBits, ofBool}
-use Rattle.bv.specs.Bv.{nat2bv, bvnot, bvudiv, bvurem, bvlshr, bvashr, concat, extract, zero-extend, sign-extend, rotate-right, rotate-left, msb, bySigns, bvule, bvslt, bvsle}
+use Rattle.bv.specs.Bv.{nat2bv, bvnot, bvudiv, bvurem, bvlshr, bvashr, concat, extract, zero-extend, sign-extend, rotate-right, rotate-left}
+use Rattle.bv.specs.Bv.{msb, bySigns, bvule, bvslt, bvsle}
 
 -- ---- [[(concat s t)]] := λx:[0, n+m). if (x < m) then [[t]](x) else [[s]](x - m)
 low-bit : (v a b k : ℕ) → k < v → bit (concat v a b) k ≡ bit b k

@@ -8,7 +8,9 @@ use lib.ListN.{length}
 use Rattle.sorts.specs.Sorts.{Edition, sortsOf, sortAnswer}
 use Rattle.sorts.proofs.Sorts.{sort-zeroes}
 use Rattle.answers.specs.declared.Answer.{Answer}
-use Rattle.answers.specs.declared.Answer.the-variants.{Accepted, RowCount, WorkShort, BadRow, BadBit, Ext, Core, MapLength, ReadTable, CallTable, DeadEntry, RootMismatch, CongruenceMismatch, BadRoot, MapOutOfRange, VarClass, ConstMismatch, NodeMismatch, ChainMismatch, CallMismatch}
+use Rattle.answers.specs.declared.Answer.the-variants.{Accepted, RowCount, WorkShort, BadRow, BadBit, Ext, Core, MapLength, ReadTable, CallTable}
+use Rattle.answers.specs.declared.Answer.the-variants.{DeadEntry, RootMismatch, CongruenceMismatch, BadRoot, MapOutOfRange, VarClass, ConstMismatch}
+use Rattle.answers.specs.declared.Answer.the-variants.{NodeMismatch, ChainMismatch, CallMismatch}
 use Rattle.answers.specs.Answer.{isAccepted, keeps}
 use Rattle.lists.proofs.Choice.{no-way}
 use Rattle.rows.specs.declared.Graph.the-variants.{Source, Target}
@@ -22,7 +24,8 @@ use Rattle.lowering.specs.Roots.{Pair, badLead, badCong, readPairs, callPairs, 
 use Rattle.lowering.specs.Matching.{Noted, noted, mappedArg, selectWalk, endGood, callMatches, varMatches, nodeMatches, matched}
 use Rattle.lowering.specs.Matching.{Kind, var, const, core, select, call, unknown, kindOf, kindAnswer, nodeAnswer, rowAnswer}
 use Rattle.lowering.specs.Lowering.{arraySorts, SourceGraph, TargetGraph, Lowering, Binding, bindingOf, entriesOf, sourceRows, targetRows}
-use Rattle.lowering.specs.Check.{widthsOfTarget, noClasses, classesOfReads, deadVariable, answerOf, mismatch, offsets, classes, refuse, firstRefusal, countAnswers, graphAnswers, formsOf, rootAnswers, matchAnswers}
+use Rattle.lowering.specs.Check.{widthsOfTarget, noClasses, classesOfReads, deadVariable, answerOf, mismatch, offsets, classes, refuse, firstRefusal}
+use Rattle.lowering.specs.Check.{countAnswers, graphAnswers, formsOf, rootAnswers, matchAnswers}
 use Rattle.lowering.specs.Check.{sourceIll, targetIll, sourceRowWidths, targetRowWidths, bitAnswers, formAnswers}
 use Rattle.lowering.proofs.Refusals.{refusal-append}
 
@@ -50,15 +53,20 @@ keeps-first (a ∷ more) z = go (isAccepted a) (keeps-first more (z .1))
     go false r = z .0
 
 -- the counts' refusals are
-pub keeps-count : (S : SourceGraph) (T : TargetGraph) (w0 w1 c e : ℕ) → isAccepted (firstRefusal (countAnswers S T w0 w1 c e)) ≡ false → keeps (firstRefusal (countAnswers S T w0 w1 c e)) ≡ true
+pub keeps-count : (S : SourceGraph) (T : TargetGraph) (w0 w1 c e : ℕ) → isAccepted (firstRefusal (countAnswers S T w0 w1 c e)) ≡ false
+    → keeps (firstRefusal (countAnswers S T w0 w1 c e)) ≡ true
 unfolding firstRefusal
-keeps-count S T w0 w1 c e n = go (ragged Source (S .rows)) (ragged Target (T .rows)) (ltb w0 (rowCount Source (S .rows))) (ltb w1 (rowCount Target (T .rows))) (ltb c (rowCount Target (T .rows))) (ltb e (rowCount Target (T .rows))) n
+keeps-count S T w0 w1 c e n =
+    go (ragged Source (S .rows)) (ragged Target (T .rows)) (ltb w0 (rowCount Source (S .rows))) (ltb w1 (rowCount Target (T .rows)))
+    (ltb c (rowCount Target (T .rows))) (ltb e (rowCount Target (T .rows))) n
   where
     list : Bool → Bool → Bool → Bool → Bool → Bool → List Answer
     list b0 b1 b2 b3 b4 b5 =
-        refuse b0 (RowCount 1) ∷ refuse b1 (RowCount 2) ∷ refuse b2 (WorkShort 1) ∷ refuse b3 (WorkShort 2) ∷ refuse b4 (WorkShort 3) ∷ refuse b5 (WorkShort 4) ∷ []
+        refuse b0 (RowCount 1) ∷ refuse b1 (RowCount 2) ∷ refuse b2 (WorkShort 1) ∷ refuse b3 (WorkShort 2) ∷ refuse b4 (WorkShort 3)
+        ∷ refuse b5 (WorkShort 4) ∷ []
 
-    go : (b0 b1 b2 b3 b4 b5 : Bool) → isAccepted (firstRefusal (list b0 b1 b2 b3 b4 b5)) ≡ false → keeps (firstRefusal (list b0 b1 b2 b3 b4 b5)) ≡ true
+    go : (b0 b1 b2 b3 b4 b5 : Bool) → isAccepted (firstRefusal (list b0 b1 b2 b3 b4 b5)) ≡ false
+        → keeps (firstRefusal (list b0 b1 b2 b3 b4 b5)) ≡ true
     go true b1 b2 b3 b4 b5 n = refl
     go false true b2 b3 b4 b5 n = refl
     go false false true b3 b4 b5 n = refl
@@ -107,15 +115,21 @@ keeps-forms strict E S T eroots troots = go (isAccepted graphs) refl
     graphs = firstRefusal (formsOf E S T)
 
     go : (b : Bool) → isAccepted graphs ≡ b → keeps (firstRefusal (formAnswers strict E S T eroots troots)) ≡ false
-    go true e = rw (refusal-append (formsOf E S T) (bitAnswers strict (sourceRowWidths (sortsOf E) S) eroots (targetRowWidths T) troots), e) (keeps-bits strict (sourceRowWidths (sortsOf E) S) eroots (targetRowWidths T) troots)
-    go false e = rw (refusal-append (formsOf E S T) (bitAnswers strict (sourceRowWidths (sortsOf E) S) eroots (targetRowWidths T) troots), e) (keeps-graphs E S T (sourceIll (sortsOf E) S) (targetIll T))
+    go true e =
+        rw (refusal-append (formsOf E S T) (bitAnswers strict (sourceRowWidths (sortsOf E) S) eroots (targetRowWidths T) troots), e)
+        (keeps-bits strict (sourceRowWidths (sortsOf E) S) eroots (targetRowWidths T) troots)
+    go false e =
+        rw (refusal-append (formsOf E S T) (bitAnswers strict (sourceRowWidths (sortsOf E) S) eroots (targetRowWidths T) troots), e)
+        (keeps-graphs E S T (sourceIll (sortsOf E) S) (targetIll T))
 
 keeps-kind : (B : Binding) (N : Noted) (i r : ℕ) (k : Kind) → keeps (kindAnswer B N i r k) ≡ false
 keeps-kind B N i r (var w) = keeps-matched (varMatches (B .target .rows) (N .classes) w r) (VarClass i) refl
 keeps-kind B N i r const =
-    keeps-matched (sameConst (B .source .bits) (rowAt Source (B .source .rows) i) (B .target .bits) (rowAt Target (B .target .rows) r)) (ConstMismatch i) refl
+    keeps-matched (sameConst (B .source .bits) (rowAt Source (B .source .rows) i) (B .target .bits) (rowAt Target (B .target .rows) r))
+    (ConstMismatch i) refl
 keeps-kind B N i r (core node) = keeps-matched (nodeMatches (B .map) (B .target .rows) node r) (NodeMismatch i) refl
-keeps-kind B N i r (select a j s k) = keeps-matched (endGood (B .map) (B .reads) (B .target .rows) N a j (selectWalk B r j s k)) (ChainMismatch i) refl
+keeps-kind B N i r (select a j s k) =
+    keeps-matched (endGood (B .map) (B .reads) (B .target .rows) N a j (selectWalk B r j s k)) (ChainMismatch i) refl
 keeps-kind B N i r (call f w s k) =
     keeps-matched (callMatches (B .calls) (B .cargs) (B .target .rows) N f w k (mappedArg (B .map) (B .source .side) s) r) (CallMismatch i) refl
 keeps-kind B N i r unknown = refl
@@ -129,7 +143,8 @@ keeps-row L i = go (eqb (mapAt (L .map) i) MAX) (ltb (mapAt (L .map) i) (rowCoun
 
     go : (b c : Bool) → keeps (cond b Accepted (cond c node (MapOutOfRange i))) ≡ false
     go true c = refl
-    go false true = keeps-kind (bindingOf L) (noted (classes L i) (offsets L)) i (mapAt (L .map) i) (kindOf (nodeOf (rowAt Source (L .source .rows) i)))
+    go false true =
+        keeps-kind (bindingOf L) (noted (classes L i) (offsets L)) i (mapAt (L .map) i) (kindOf (nodeOf (rowAt Source (L .source .rows) i)))
     go false false = refl
 
 module _ (L : Lowering) where
@@ -140,7 +155,16 @@ module _ (L : Lowering) where
   c = badCall (L .calls) (L .cargs) (L .target .rows) (widthsOfTarget L) (classesOfReads L)
 
   keeps-roots : Zero (rootAnswers (entriesOf L) (L .target) (widthsOfTarget L) (L .map) (L .eroots) (L .troots))
-  keeps-roots = (keeps-refuse (ltb lead (length (L .eroots))) (RootMismatch lead) refl, (keeps-refuse (ltb x (length ps)) (CongruenceMismatch (length (L .eroots) + x)) refl, (keeps-refuse (ltb y (length qs)) (CongruenceMismatch (length (L .eroots) + length ps + y)) refl, (keeps-refuse (not (eqb (length (L .troots)) (length (L .eroots) + length ps + length qs))) (RootMismatch 0) refl, tt))))
+  keeps-roots = (
+    keeps-refuse (ltb lead (length (L .eroots))) (RootMismatch lead) refl,
+    (
+      keeps-refuse (ltb x (length ps)) (CongruenceMismatch (length (L .eroots) + x)) refl,
+      (
+        keeps-refuse (ltb y (length qs)) (CongruenceMismatch (length (L .eroots) + length ps + y)) refl,
+        (keeps-refuse (not (eqb (length (L .troots)) (length (L .eroots) + length ps + length qs))) (RootMismatch 0) refl, tt),
+      ),
+    ),
+  )
     where
       lead : ℕ
       lead = badLead (L .map) (L .eroots) (L .troots)
@@ -159,5 +183,16 @@ module _ (L : Lowering) where
 
   pub keeps-match : keeps (firstRefusal (matchAnswers L)) ≡ false
   keeps-match =
-      keeps-first (matchAnswers L)
-      (keeps-refuse (not (eqb (length (L .map)) (sourceRows L))) (MapLength (sourceRows L) (length (L .map))) refl, (keeps-refuse (ltb r (readCount (L .reads))) (ReadTable r) refl, (keeps-refuse (ltb c (callCount (L .calls))) (CallTable c) refl, (keeps-refuse (ltb (mismatch L) (sourceRows L)) (answerOf L (mismatch L)) (keeps-row L (mismatch L)), (keeps-refuse (ltb (deadVariable L) (targetRows L)) (DeadEntry (deadVariable L)) refl, keeps-roots)))))
+      keeps-first (matchAnswers L) (
+        keeps-refuse (not (eqb (length (L .map)) (sourceRows L))) (MapLength (sourceRows L) (length (L .map))) refl,
+        (
+          keeps-refuse (ltb r (readCount (L .reads))) (ReadTable r) refl,
+          (
+            keeps-refuse (ltb c (callCount (L .calls))) (CallTable c) refl,
+            (
+              keeps-refuse (ltb (mismatch L) (sourceRows L)) (answerOf L (mismatch L)) (keeps-row L (mismatch L)),
+              (keeps-refuse (ltb (deadVariable L) (targetRows L)) (DeadEntry (deadVariable L)) refl, keeps-roots),
+            ),
+          ),
+        ),
+      )

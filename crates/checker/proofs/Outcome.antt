@@ -19,7 +19,8 @@ use Rattle.wf.specs.Widths.{widths}
 use Rattle.wf.proofs.Promise.{well-formed}
 use Rattle.lowering.specs.Tables.{readCount, readVar, callCount, callVar, readOffsets}
 use Rattle.lowering.specs.Lowering.{arraySorts, Lowering, sourceRows, targetRows}
-use Rattle.lowering.specs.Check.{widthsOfSource, widthsOfTarget, sourceIll, targetIll, noClasses, classesOfReads, classes, offsets, refuse, firstRefusal, countAnswers, formsOf, bitAnswers, formAnswers, matchAnswers, checkAnswerBy, checkBy}
+use Rattle.lowering.specs.Check.{widthsOfSource, widthsOfTarget, sourceIll, targetIll, noClasses, classesOfReads, classes, offsets, refuse}
+use Rattle.lowering.specs.Check.{firstRefusal, countAnswers, formsOf, bitAnswers, formAnswers, matchAnswers, checkAnswerBy, checkBy}
 use Rattle.lowering.proofs.Classes.{classes-keep-length}
 use Rattle.lowering.proofs.Inversion.{Each, each, each-append, none-refused, not-refused}
 use Rattle.lowering.proofs.Marks.{marks-length}
@@ -29,7 +30,8 @@ use Rattle.forms.proofs.Form.{width-count, widths-front, table-good, no-stop-so
 use Rattle.checker.proofs.Keeps.{keeps-count, keeps-forms, keeps-match}
 
 -- cleared after the last row
-pub widths-cleared : (σ : Sorts) (graph : Graph) (nbits n k : ℕ) (side g ws rest after : List ℕ) → n ≡ rowCount graph g → ws ≡ widths σ graph nbits side g ++ rest → length ws ≡ k
+pub widths-cleared : (σ : Sorts) (graph : Graph) (nbits n k : ℕ) (side g ws rest after : List ℕ) → n ≡ rowCount graph g
+    → ws ≡ widths σ graph nbits side g ++ rest → length ws ≡ k
     → after ≡ take n ws ++ replicate (length ws - n) 0 → after ≡ widths σ graph nbits side g ++ replicate (k - rowCount graph g) 0
 widths-cleared σ graph nbits n k side g ws rest after e q l f = f ∙ rw (widths-front σ graph nbits n side g ws rest e q, l, e)
 
@@ -142,15 +144,20 @@ module _ (strict : Bool) (L : Lowering) (ws0 ws1 cls ent : List ℕ) where
       none-refused graphs (each-append graphs (bitAnswers strict (widthsOfSource L) (L .eroots) (widthsOfTarget L) (L .troots)) (each _ f) .0)
 
   pub forms-sorted : isAccepted forms ≡ true → Good (L .edition)
-  forms-sorted f = table-good (sortAnswer (L .edition)) (L .source) (L .target) (sourceIll (arraySorts L) (L .source)) (targetIll (L .target)) (graphs-pass f)
+  forms-sorted f =
+      table-good (sortAnswer (L .edition)) (L .source) (L .target) (sourceIll (arraySorts L) (L .source)) (targetIll (L .target)) (graphs-pass f)
 
   pub forms-formed : isAccepted forms ≡ true → Formed (L .source) (L .target)
   forms-formed f =
       let g = graphs-pass f in
       record {
         sorts = arraySorts L;
-        source-formed = well-formed (arraySorts L) Source (length (L .source .bits)) (L .source .side) (L .source .rows) (no-stop-source (sortAnswer (L .edition)) (L .source) (L .target) (sourceIll (arraySorts L) (L .source)) (targetIll (L .target)) g);
-        target-formed = well-formed plain Target (length (L .target .bits)) [] (L .target .rows) (no-stop-target (sortAnswer (L .edition)) (L .source) (L .target) (sourceIll (arraySorts L) (L .source)) (targetIll (L .target)) g);
+        source-formed =
+            well-formed (arraySorts L) Source (length (L .source .bits)) (L .source .side) (L .source .rows)
+            (no-stop-source (sortAnswer (L .edition)) (L .source) (L .target) (sourceIll (arraySorts L) (L .source)) (targetIll (L .target)) g);
+        target-formed =
+            well-formed plain Target (length (L .target .bits)) [] (L .target .rows)
+            (no-stop-target (sortAnswer (L .edition)) (L .source) (L .target) (sourceIll (arraySorts L) (L .source)) (targetIll (L .target)) g);
       }
 
 -- a result by its lists

@@ -11,5 +11,6 @@ put-back : (ofInt 8 (negsuc 0) ≡ 255) × (ofInt 8 (pos 128) ≡ 128) × (ofInt
 put-back = (refl, refl, refl, refl)
 
 -- the least number by minus one, and -7 by 2
-divided : (ofInt 8 (quotZ (toInt 8 128) (toInt 8 255)) ≡ 128) × (ofInt 8 (quotZ (toInt 8 249) (toInt 8 2)) ≡ 253) × (ofInt 8 (remZ (toInt 8 249) (toInt 8 2)) ≡ 255)
+divided : (ofInt 8 (quotZ (toInt 8 128) (toInt 8 255)) ≡ 128) × (ofInt 8 (quotZ (toInt 8 249) (toInt 8 2)) ≡ 253)
+    × (ofInt 8 (remZ (toInt 8 249) (toInt 8 2)) ≡ 255)
 divided = (refl, refl, refl)

@@ -23,7 +23,8 @@ four-lt s t pp np pn nn m h k i j = either-lt s _ _ m (either-lt t nn np m j k) 
 
 pub sdiv-fits : (w a b : ℕ) → a < 2 ^ w → bvsdiv w a b < 2 ^ w
 sdiv-fits w a b h =
-    four-lt (negative w a) (negative w b) _ _ _ _ _ (udiv-fits w a b h) (neg-fits w _) (neg-fits w _) (udiv-fits w (bvneg w a) (bvneg w b) (neg-fits w a))
+    four-lt (negative w a) (negative w b) _ _ _ _ _ (udiv-fits w a b h) (neg-fits w _) (neg-fits w _)
+    (udiv-fits w (bvneg w a) (bvneg w b) (neg-fits w a))
 
 pub srem-fits : (w a b : ℕ) → a < 2 ^ w → bvsrem w a b < 2 ^ w
 srem-fits w a b h =

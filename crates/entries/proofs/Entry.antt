@@ -55,13 +55,17 @@ module _ (which : Table) (second : Bool) (table beside target ws cls : List ℕ)
       whole-at = rw (at, size) at whole
 
       -- its variable is not free
-      pub good-taken : free which (sortIn which second table beside k .cell) target cls (getD table off 0) ≡ false → false ≡ good which second table beside target ws cls k
-      good-taken e = fails _ (rw (at, size) at e) ∙ three _ _ _ _ ∙ passes _ (le-leb _ _ whole-at) ∙ sym (good-is which second table beside target ws cls k)
+      pub good-taken : free which (sortIn which second table beside k .cell) target cls (getD table off 0) ≡ false
+          → false ≡ good which second table beside target ws cls k
+      good-taken e =
+          fails _ (rw (at, size) at e) ∙ three _ _ _ _ ∙ passes _ (le-leb _ _ whole-at) ∙ sym (good-is which second table beside target ws cls k)
 
       -- its own tests decide
       pub good-own : free which (sortIn which second table beside k .cell) target cls (getD table off 0) ≡ true
-          → all (own which (sortIn which second table beside k .index) table beside ws (rowCount Target target) k) ≡ good which second table beside target ws cls k
-      good-own e = passes _ (rw (at, size) at e) ∙ three _ _ _ _ ∙ passes _ (le-leb _ _ whole-at) ∙ sym (good-is which second table beside target ws cls k)
+          → all (own which (sortIn which second table beside k .index) table beside ws (rowCount Target target) k)
+          ≡ good which second table beside target ws cls k
+      good-own e =
+          passes _ (rw (at, size) at e) ∙ three _ _ _ _ ∙ passes _ (le-leb _ _ whole-at) ∙ sym (good-is which second table beside target ws cls k)
 
     -- a good entry is whole, and its variable is a row
     pub good-whole : good which second table beside target ws cls k ≡ true → (off + w ≤ length table) × (getD table off 0 < rowCount Target target)

@@ -28,8 +28,15 @@ module _ (bits ws vs : List ℕ) where
       → ((a < length ws) × (a < length vs))
       × ((isExtend t ≡ true) × (0 < getD ws a 0) × (getD ws a 0 + n ≤ 64) × (getD vs a 0 < 2 ^ getD ws a 0))
   extend-ready t a n r =
-      let h = r .formed .earlier .0 in
-      ((omega (arith, r .rows), h), (decoded-good (Extend t a n) (r .decoded), r .positive a h, omega (arith, r .formed .follows, r .narrow (length vs)), r .fits a))
+      let h = r .formed .earlier .0 in (
+        (omega (arith, r .rows), h),
+        (
+          decoded-good (Extend t a n) (r .decoded),
+          r .positive a h,
+          omega (arith, r .formed .follows, r .narrow (length vs)),
+          r .fits a,
+        ),
+      )
 
   pub bin-ready : (t a b : ℕ) → Ready bits ws vs (length vs) (Bin t a b)
       → ((a < length ws) × (a < length vs) × (b < length ws) × (b < length vs))

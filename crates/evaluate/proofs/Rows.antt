@@ -47,7 +47,8 @@ module _ (g bits given : List ℕ) where
   pub numbers-front : (i : ℕ) (rest : List ℕ) → take i (numbersTo g bits given i ++ rest) ≡ numbersTo g bits given i
   numbers-front i rest = take-at (numbersTo g bits given i) rest i (numbers-length i)
 
-  pub numbers-store : (l : List ℕ) (i v : ℕ) → i < length l → v ≡ nat (rowValue bits (λ i. getD given i 0) g i (valuesTo bits (λ i. getD given i 0) g i))
+  pub numbers-store : (l : List ℕ) (i v : ℕ) → i < length l
+      → v ≡ nat (rowValue bits (λ i. getD given i 0) g i (valuesTo bits (λ i. getD given i 0) g i))
       → set (numbersTo g bits given i ++ drop i l) i v ≡ numbersTo g bits given (i + 1) ++ drop (i + 1) l
   unfolding build
   numbers-store l i v h e =
@@ -55,7 +56,8 @@ module _ (g bits given : List ℕ) where
       (set-at (numbersTo g bits given i) _ _ _ i (numbers-length i) ∙ sym (append-assoc (numbersTo g bits given i) _ _))
 
   module _ (ws : List ℕ) (E : Evaluable g bits given ws) (i : ℕ) (h : i < rowCount Target g) where
-    formed-at : (a : ℕ) → a < rowCount Target g → (wid (value bits (λ i. getD given i 0) g a) ≡ getD ws a 0) × Fit (value bits (λ i. getD given i 0) g a)
+    formed-at : (a : ℕ) → a < rowCount Target g
+        → (wid (value bits (λ i. getD given i 0) g a) ≡ getD ws a 0) × Fit (value bits (λ i. getD given i 0) g a)
     formed-at = value-formed bits [] g ws (λ i. getD given i 0) (E .formed) (E .clean) (E .core) (E .assigns)
 
     stay : (a : ℕ) → a < i → value bits (λ i. getD given i 0) g a ≡ getD (valuesTo bits (λ i. getD given i 0) g i) a (val 0 0)
@@ -94,8 +96,10 @@ module _ (g bits given : List ℕ) where
     pub row-number : (j : ℕ) → nat (nodeValue bits (λ j. getD given i 0) (lookup ws (numbersTo g bits given i)) j (nodeOf (rowAt Target g i)))
         ≡ nat (rowValue bits (λ i. getD given i 0) g i (valuesTo bits (λ i. getD given i 0) g i))
     row-number j =
-        ap (λ (os : List Val). nat (cond (eqb (tagOf node) tVar) (val (getD (parameters bits node) 0 0) (getD given i 0)) (operate (tagOf node) (parameters bits node) os)))
-        (map-below i (lookup ws (numbersTo g bits given i)) (λ a. getD (valuesTo bits (λ i. getD given i 0) g i) a (val 0 0)) looked (operands node) (E .formed i h .earlier))
+        ap (λ (os : List Val). nat (cond (eqb (tagOf node) tVar) (val (getD (parameters bits node) 0 0) (getD given i 0))
+        (operate (tagOf node) (parameters bits node) os)))
+        (map-below i (lookup ws (numbersTo g bits given i)) (λ a. getD (valuesTo bits (λ i. getD given i 0) g i) a (val 0 0)) looked (operands node)
+        (E .formed i h .earlier))
       where
         node : Node
         node = nodeOf (rowAt Target g i)

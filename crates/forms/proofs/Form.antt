@@ -88,7 +88,8 @@ module _ (σ : Sorts) (graph : Graph) (nbits : ℕ) (side g : List ℕ) where
 
 -- the stop rows give the same answer as the ill-formed rows
 pub graphs-stop : (E : Edition) (S : SourceGraph) (T : TargetGraph)
-    → firstRefusal (graphAnswers (sortAnswer E) S T (stopRow (sortsOf E) Source (length (S .bits)) (S .side) (S .rows)) (stopRow plain Target (length (T .bits)) [] (T .rows))) ≡ graphsAnswer E S T
+    → firstRefusal (graphAnswers (sortAnswer E) S T (stopRow (sortsOf E) Source (length (S .bits)) (S .side) (S .rows))
+    (stopRow plain Target (length (T .bits)) [] (T .rows))) ≡ graphsAnswer E S T
 graphs-stop E S T = go _ refl _ refl
   where
     x : ℕ
@@ -97,12 +98,18 @@ graphs-stop E S T = go _ refl _ refl
     y : ℕ
     y = stopRow plain Target (length (T .bits)) [] (T .rows)
 
-    go : (b : Bool) → ltb (badRow Source (S .rows)) (rowCount Source (S .rows)) ≡ b → (c : Bool) → ltb (badRow Target (T .rows)) (rowCount Target (T .rows)) ≡ c
+    go : (b : Bool) → ltb (badRow Source (S .rows)) (rowCount Source (S .rows)) ≡ b → (c : Bool)
+        → ltb (badRow Target (T .rows)) (rowCount Target (T .rows)) ≡ c
         → firstRefusal (graphAnswers (sortAnswer E) S T x y) ≡ graphsAnswer E S T
     go true e c f = bad-source (sortAnswer E) S T x y (ltb-true _ _ e) ∙ sym (bad-source (sortAnswer E) S T _ _ (ltb-true _ _ e))
-    go false e true f = bad-target (sortAnswer E) S T x y (ltb-false _ _ e) (ltb-true _ _ f) ∙ sym (bad-target (sortAnswer E) S T _ _ (ltb-false _ _ e) (ltb-true _ _ f))
+    go false e true f =
+        bad-target (sortAnswer E) S T x y (ltb-false _ _ e) (ltb-true _ _ f)
+        ∙ sym (bad-target (sortAnswer E) S T _ _ (ltb-false _ _ e) (ltb-true _ _ f))
     go false e false f =
-        rw (stop-is-ill (sortsOf E) Source (length (S .bits)) (S .side) (S .rows) (ltb-false _ _ e), stop-is-ill plain Target (length (T .bits)) [] (T .rows) (ltb-false _ _ f))
+        rw (
+          stop-is-ill (sortsOf E) Source (length (S .bits)) (S .side) (S .rows) (ltb-false _ _ e),
+          stop-is-ill plain Target (length (T .bits)) [] (T .rows) (ltb-false _ _ f),
+        )
 
 -- a row that stops the pass along the source settles the answer, wherever the target's pass stops
 pub source-settles : (sort : Answer) (S : SourceGraph) (T : TargetGraph) (x y z : ℕ) → x < rowCount Source (S .rows)
@@ -129,28 +136,32 @@ module _ (sort : Answer) (S : SourceGraph) (T : TargetGraph) (x y : ℕ) (accept
 
 -- so the whole list of widths stands there
 pub widths-all : (σ : Sorts) (graph : Graph) (nbits : ℕ) (side g ws : List ℕ) → rowCount graph g ≤ stopRow σ graph nbits side g
-    → widthsTo σ graph nbits side g (stopRow σ graph nbits side g) ++ drop (stopRow σ graph nbits side g) ws ≡ widths σ graph nbits side g ++ drop (rowCount graph g) ws
+    → widthsTo σ graph nbits side g (stopRow σ graph nbits side g) ++ drop (stopRow σ graph nbits side g) ws ≡ widths σ graph nbits side g
+    ++ drop (rowCount graph g) ws
 widths-all σ graph nbits side g ws h = rw (first-all (rowStops σ graph nbits side g) (rowCount graph g) h)
 
 -- a list of widths has one for each row, and stands in front
 pub width-count : (σ : Sorts) (graph : Graph) (nbits : ℕ) (side g : List ℕ) → length (widths σ graph nbits side g) ≡ rowCount graph g
 width-count σ graph nbits side g = build-length (rowWidth σ graph nbits side g) (rowCount graph g)
 
-pub widths-front : (σ : Sorts) (graph : Graph) (nbits n : ℕ) (side g ws rest : List ℕ) → n ≡ rowCount graph g → ws ≡ widths σ graph nbits side g ++ rest
+pub widths-front : (σ : Sorts) (graph : Graph) (nbits n : ℕ) (side g ws rest : List ℕ) → n ≡ rowCount graph g
+    → ws ≡ widths σ graph nbits side g ++ rest
     → take n ws ≡ widths σ graph nbits side g
-widths-front σ graph nbits n side g ws rest e q = rw (e, q) (take-at (widths σ graph nbits side g) rest (rowCount graph g) (width-count σ graph nbits side g))
+widths-front σ graph nbits n side g ws rest e q =
+    rw (e, q) (take-at (widths σ graph nbits side g) rest (rowCount graph g) (width-count σ graph nbits side g))
 
 -- the roots are asked where both graphs pass
-module _ (strict : Bool) (E : Edition) (S : SourceGraph) (T : TargetGraph) (eroots troots : List ℕ) (g : Answer) (graphs : g ≡ graphsAnswer E S T) where
-  forms-are : firstRefusal (formAnswers strict E S T eroots troots)
-      ≡ andThen g (firstRefusal (bitAnswers strict (sourceRowWidths (sortsOf E) S) eroots (targetRowWidths T) troots))
-  forms-are =
-      refusal-append (formsOf E S T) (bitAnswers strict (sourceRowWidths (sortsOf E) S) eroots (targetRowWidths T) troots)
-      ∙ rw (← graphs)
+module _ (strict : Bool) (E : Edition) (S : SourceGraph) (T : TargetGraph) (eroots troots : List ℕ) (g : Answer) (graphs : g ≡ graphsAnswer E S T)
+  where
+    forms-are : firstRefusal (formAnswers strict E S T eroots troots)
+        ≡ andThen g (firstRefusal (bitAnswers strict (sourceRowWidths (sortsOf E) S) eroots (targetRowWidths T) troots))
+    forms-are =
+        refusal-append (formsOf E S T) (bitAnswers strict (sourceRowWidths (sortsOf E) S) eroots (targetRowWidths T) troots)
+        ∙ rw (← graphs)
 
-  pub graphs-refused : isAccepted g ≡ false → g ≡ firstRefusal (formAnswers strict E S T eroots troots)
-  graphs-refused n = sym (forms-are ∙ rw n)
+    pub graphs-refused : isAccepted g ≡ false → g ≡ firstRefusal (formAnswers strict E S T eroots troots)
+    graphs-refused n = sym (forms-are ∙ rw n)
 
-  pub roots-asked : isAccepted g ≡ true → (a : Answer) (ws0 ws1 : List ℕ) → a ≡ firstRefusal (bitAnswers strict ws0 eroots ws1 troots)
-      → ws0 ≡ sourceRowWidths (sortsOf E) S → ws1 ≡ targetRowWidths T → a ≡ firstRefusal (formAnswers strict E S T eroots troots)
-  roots-asked n a ws0 ws1 e p q = e ∙ rw (p, q) (sym (forms-are ∙ rw n))
+    pub roots-asked : isAccepted g ≡ true → (a : Answer) (ws0 ws1 : List ℕ) → a ≡ firstRefusal (bitAnswers strict ws0 eroots ws1 troots)
+        → ws0 ≡ sourceRowWidths (sortsOf E) S → ws1 ≡ targetRowWidths T → a ≡ firstRefusal (formAnswers strict E S T eroots troots)
+    roots-asked n a ws0 ws1 e p q = e ∙ rw (p, q) (sym (forms-are ∙ rw n))

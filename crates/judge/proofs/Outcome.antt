@@ -64,7 +64,8 @@ module _ (strict : Bool) (b ws0 ws1 cls ent words : List ℕ) where
 
   module _ (a : Answer) where
     pub shape-done : a ≡ bookAnswer b → isAccepted a ≡ false
-        → result a (replicate (length ws0) 0 ∷ replicate (length ws1) 0 ∷ replicate (length cls) 0 ∷ replicate (length ent) 0 ∷ replicate (length words) 0 ∷ [])
+        → result a (replicate (length ws0) 0 ∷ replicate (length ws1) 0 ∷ replicate (length cls) 0 ∷ replicate (length ent) 0
+        ∷ replicate (length words) 0 ∷ [])
         ≡ judgeBy strict b ws0 ws1 cls ent words
     shape-done e n =
         let r : isAccepted (bookAnswer b) ≡ false = rw e at n in
@@ -109,7 +110,8 @@ module _ (strict : Bool) (b ws0 ws1 cls ent words : List ℕ) where
   pub words-fit : isAccepted room ≡ true → length (bookWords b) ≤ length words
   words-fit r = go (ltb (length words) (length (bookWords b))) refl (accepts-both counts short r .1)
     where
-      go : (t : Bool) → ltb (length words) (length (bookWords b)) ≡ t → isAccepted (refuse t (WorkShort 5)) ≡ true → length (bookWords b) ≤ length words
+      go : (t : Bool) → ltb (length words) (length (bookWords b)) ≡ t → isAccepted (refuse t (WorkShort 5)) ≡ true
+          → length (bookWords b) ≤ length words
       go true e n = no-way (sym n)
       go false e n = ltb-false _ _ e
 
@@ -119,6 +121,7 @@ pub by-lists : (a : Answer) (x0 x1 x2 x3 x4 y0 y1 y2 y3 y4 : List ℕ) (z : Resu
 by-lists a x0 x1 x2 x3 x4 y0 y1 y2 y3 y4 z e f g h l k = rw (e, f, g, h, l) k
 
 -- the words by the test as the code made it, in a list as long as it was lent
-pub words-left : (b x : List ℕ) (t u : Bool) (m n : ℕ) → x ≡ cond t (bookWords b ++ replicate (m - length (bookWords b)) 0) (replicate m 0) → t ≡ u → m ≡ n
+pub words-left : (b x : List ℕ) (t u : Bool) (m n : ℕ) → x ≡ cond t (bookWords b ++ replicate (m - length (bookWords b)) 0) (replicate m 0) → t ≡ u
+    → m ≡ n
     → x ≡ cond u (bookWords b ++ replicate (n - length (bookWords b)) 0) (replicate n 0)
 words-left b x t u m n e f g = e ∙ rw (f, g)

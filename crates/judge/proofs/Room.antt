@@ -57,7 +57,8 @@ few-words b h g =
     let y : dueAt b (sections b) ≡ length b = good-book b g .ends in
     omega (arith, sections-low b)
 
-pub few-in : (b : List ℕ) (i : ℕ) → length (loaded b i) + length (listOf b i) ≤ length (bookWords b) → length (bookWords b) ≤ 8170 → length (listOf b i) ≤ 8170
+pub few-in : (b : List ℕ) (i : ℕ) → length (loaded b i) + length (listOf b i) ≤ length (bookWords b) → length (bookWords b) ≤ 8170
+    → length (listOf b i) ≤ 8170
 few-in b i h k = omega arith
 
 module _ (strict : Bool) (b : List ℕ) (w0 w1 c e room : ℕ) (h0 : 2048 ≤ w0) (h1 : 2048 ≤ w1) (h2 : 2048 ≤ c) (h3 : 2048 ≤ e) (h4 : 8192 ≤ room) where
@@ -81,7 +82,8 @@ module _ (strict : Bool) (b : List ℕ) (w0 w1 c e room : ℕ) (h0 : 2048 ≤ w0
     verdict-is = rw (le-ltb longest (length b) h) (go (isAccepted (bookAnswer b)) refl)
       where
         go : (t : Bool) → isAccepted (bookAnswer b) ≡ t → judgeAnswerBy strict b w0 w1 c e room
-            ≡ andThen (bookAnswer b) (checkAnswerBy strict (held b) (sourceRows (held b)) (targetRows (held b)) (targetRows (held b)) (targetRows (held b)))
+            ≡ andThen (bookAnswer b) (checkAnswerBy strict (held b) (sourceRows (held b)) (targetRows (held b)) (targetRows (held b))
+            (targetRows (held b)))
         go true g = rw g (long-enough g)
         go false g = rw g
 

@@ -1,5 +1,5 @@
--- What is accepted of a book is sound: the lists that it holds, by the theorem of Check and of the strict check. A book's target is no longer than the book, so a book that is
--- a slice meets the theorem's bound. Assumes nothing.
+-- What is accepted of a book is sound: the lists that it holds, by the theorem of Check and of the strict check. A book's target is no longer than
+-- the book, so a book that is a slice meets the theorem's bound. Assumes nothing.
 use Prim.Native.Nat.{ℕ, _≤_}
 use mathlib.Core.Path.{_≡_, sym, ap, _∙_}
 use mathlib.Core.Bool.{Bool, true, false, cond}
@@ -41,11 +41,13 @@ of-target b = replicate (targetRows (held b)) 0
 
 module _ (strict : Bool) (b : List ℕ) where
   -- what verdict and judge accept, the check accepts on the lists that the book holds
-  verdict-accepts : (r : Answer) → r ≡ verdictBy strict b → isAccepted r ≡ true → AcceptsBy strict (held b) (of-source b) (of-target b) (of-target b) (of-target b)
+  verdict-accepts : (r : Answer) → r ≡ verdictBy strict b → isAccepted r ≡ true
+      → AcceptsBy strict (held b) (of-source b) (of-target b) (of-target b) (of-target b)
   verdict-accepts r e a = go (ltb longest (length b)) (ap isAccepted (sym e) ∙ a)
     where
       go : (t : Bool) → isAccepted (cond t (BookShape 13)
-          (andThen (bookAnswer b) (checkAnswerBy strict (held b) (sourceRows (held b)) (targetRows (held b)) (targetRows (held b)) (targetRows (held b))))) ≡ true
+          (andThen (bookAnswer b) (checkAnswerBy strict (held b) (sourceRows (held b)) (targetRows (held b)) (targetRows (held b))
+          (targetRows (held b))))) ≡ true
           → AcceptsBy strict (held b) (of-source b) (of-target b) (of-target b) (of-target b)
       go true n = no-way (sym n)
       go false n = accepts-in strict (held b) _ _ _ _ (accepts-both (bookAnswer b) _ n .1)
@@ -54,7 +56,8 @@ module _ (strict : Bool) (b : List ℕ) where
       → AcceptsBy strict (held b) ws0 ws1 cls ent
   judge-accepts r ws0 ws1 cls ent words e a =
       let x = accepts-both (bookAnswer b) _ (ap isAccepted (sym e) ∙ a) .1 in
-      let y = accepts-both (firstRefusal (countAnswers (held b .source) (held b .target) (length ws0) (length ws1) (length cls) (length ent))) _ x .1 in
+      let y =
+      accepts-both (firstRefusal (countAnswers (held b .source) (held b .target) (length ws0) (length ws1) (length cls) (length ent))) _ x .1 in
       accepts-both (refuse (ltb (length words) (length (bookWords b))) (WorkShort 5)) _ y .1
 
 module _ (strict : Bool) (b : List ℕ) (slice : length b ≤ MAX) where
@@ -69,7 +72,8 @@ module _ (strict : Bool) (b : List ℕ) (slice : length b ≤ MAX) where
     λ a. same-choices strict (held b) (of-source b) (of-target b) (of-target b) (of-target b) small (verdict-accepts strict b r e a),
   )
 
-  pub judge-sound : (r : Answer) (ws0 ws1 cls ent words : List ℕ) → r ≡ judgeBy strict b ws0 ws1 cls ent words .answer → isAccepted r ≡ true → SoundBy (truth strict) (held b)
+  pub judge-sound : (r : Answer) (ws0 ws1 cls ent words : List ℕ) → r ≡ judgeBy strict b ws0 ws1 cls ent words .answer → isAccepted r ≡ true
+      → SoundBy (truth strict) (held b)
   judge-sound r ws0 ws1 cls ent words e a = sound strict (held b) ws0 ws1 cls ent small (judge-accepts strict b r ws0 ws1 cls ent words e a)
 
   -- by the list of classes that judge leaves

@@ -40,7 +40,8 @@ module _ (l : List ℕ) (i rest : ℕ) (all : List ℕ) (h : i < length l) (e : 
   spell-more t z =
       let s : suc (i - 1) ≡ i = omega arith in
       rw (s, drop-stored l i (48 + rest % 10) h)
-      (sym (append-assoc (decimalIn i (rest / 10)) ((48 + rest % 10) ∷ []) (drop (suc i) l)) ∙ sym (ap (λ (d : List ℕ). d ++ drop (suc i) l) (decimal-more i rest t)) ∙ e)
+      (sym (append-assoc (decimalIn i (rest / 10)) ((48 + rest % 10) ∷ []) (drop (suc i) l))
+      ∙ sym (ap (λ (d : List ℕ). d ++ drop (suc i) l) (decimal-more i rest t)) ∙ e)
 
   pub spell-done : rest < 10 → drop i (set l i (48 + rest)) ≡ all
   spell-done t = drop-stored l i (48 + rest) h ∙ sym (ap (λ (d : List ℕ). d ++ drop (suc i) l) (decimal-last i rest t)) ∙ e
@@ -56,7 +57,8 @@ parts : (w : Words) (f0 f1 f2 f3 : List ℕ) → (w .number ≡ 0 → ⊥) → f
 parts w f0 f1 f2 f3 n e0 e1 e2 e3 = rw (ne-eqb _ _ n) (e3 ∙ rw (e2, e1, e0) (simp append-assoc))
 
 -- with the numbers that were put as place and detail
-pub refused-line : (w : Words) (place detail : ℕ) (f0 f1 f2 f3 : List ℕ) → (w .number ≡ 0 → ⊥) → f0 ≡ refused ++ space → f1 ≡ f0 ++ (decimal (w .number) ++ space)
+pub refused-line : (w : Words) (place detail : ℕ) (f0 f1 f2 f3 : List ℕ) → (w .number ≡ 0 → ⊥) → f0 ≡ refused ++ space
+    → f1 ≡ f0 ++ (decimal (w .number) ++ space)
     → f2 ≡ f1 ++ (decimal place ++ space) → f3 ≡ f2 ++ (decimal detail ++ newline) → place ≡ w .place → detail ≡ w .detail → f3 ≡ lineOf w
 refused-line w place detail f0 f1 f2 f3 n e0 e1 e2 e3 p d =
     parts w f0 f1 f2 f3 n e0 e1 (e2 ∙ ap (λ (k : ℕ). f1 ++ (decimal k ++ space)) p) (e3 ∙ ap (λ (k : ℕ). f2 ++ (decimal k ++ newline)) d)

@@ -20,7 +20,8 @@ use Rattle.loaded.specs.Held.{editionOf, held, bookWords}
 -- the answer to the counts and the room for the words
 module _ (b : List ℕ) (w0 w1 c e words : ℕ) (a : Answer) (q : a ≡ firstRefusal (countAnswers (held b .source) (held b .target) w0 w1 c e)) where
   abbrev answered : Answer
-  answered = andThen (firstRefusal (countAnswers (held b .source) (held b .target) w0 w1 c e)) (refuse (ltb words (length (bookWords b))) (WorkShort 5))
+  answered =
+      andThen (firstRefusal (countAnswers (held b .source) (held b .target) w0 w1 c e)) (refuse (ltb words (length (bookWords b))) (WorkShort 5))
 
   pub counts-refused : isAccepted a ≡ false → a ≡ answered
   counts-refused n = let m : isAccepted (firstRefusal (countAnswers (held b .source) (held b .target) w0 w1 c e)) ≡ false = rw q at n in rw m q
@@ -36,7 +37,8 @@ module _ (b : List ℕ) (w0 w1 c e words : ℕ) (a : Answer) (q : a ≡ firstRef
     room-good h = rw (counted, sym l, le-ltb _ _ h)
 
 -- either check on the edition and eleven lists that are a book's
-pub held-by : (strict : Bool) (E : Edition) (b x0 x1 x2 x3 x4 x5 x6 x7 x8 x9 x10 ws0 ws1 cls ent : List ℕ) (o : Result) → E ≡ editionOf b → x0 ≡ listOf b 0 → x1 ≡ body b 1 → x2 ≡ listOf b 2 → x3 ≡ listOf b 3
+pub held-by : (strict : Bool) (E : Edition) (b x0 x1 x2 x3 x4 x5 x6 x7 x8 x9 x10 ws0 ws1 cls ent : List ℕ) (o : Result) → E ≡ editionOf b
+    → x0 ≡ listOf b 0 → x1 ≡ body b 1 → x2 ≡ listOf b 2 → x3 ≡ listOf b 3
     → x4 ≡ listOf b 4 → x5 ≡ listOf b 5 → x6 ≡ listOf b 6 → x7 ≡ listOf b 7 → x8 ≡ listOf b 8 → x9 ≡ body b 9 → x10 ≡ listOf b 10
     → o ≡ checkBy strict (loweringIn E x0 x1 x2 x3 x4 x5 x6 x7 x8 x9 x10) ws0 ws1 cls ent → o ≡ checkBy strict (held b) ws0 ws1 cls ent
 held-by strict E b x0 x1 x2 x3 x4 x5 x6 x7 x8 x9 x10 ws0 ws1 cls ent o e e0 e1 e2 e3 e4 e5 e6 e7 e8 e9 e10 q =

@@ -19,7 +19,8 @@ use Rattle.wf.specs.Widths.{rowWidth}
 use Rattle.lowering.specs.Tables.{readCount, callCount, readClasses, callClasses, readOffsets, callOffsets}
 use Rattle.lowering.specs.Matching.{noted, classesTo, refusedRow, allRowsAnswer, deadEntry}
 use Rattle.lowering.specs.Lowering.{arraySorts, Lowering, sourceRows, targetRows, bindingOf, entriesOf}
-use Rattle.lowering.specs.Check.{widthsOfTarget, noClasses, classesOfReads, classesOfTables, classes, offsets, answerOf, mismatch, rowsRefusal, deadVariable, refuse, firstRefusal, tableAnswers, rootAnswers, matchAnswers}
+use Rattle.lowering.specs.Check.{widthsOfTarget, noClasses, classesOfReads, classesOfTables, classes, offsets, answerOf, mismatch, rowsRefusal}
+use Rattle.lowering.specs.Check.{deadVariable, refuse, firstRefusal, tableAnswers, rootAnswers, matchAnswers}
 use Rattle.lowering.proofs.Inversion.{each, not-refused, all-pass, first-refused}
 use Rattle.lowering.proofs.Refusals.{refusal-append}
 use Rattle.pairs.specs.Walk.{ReadsIn}
@@ -53,11 +54,13 @@ module _ (L : Lowering) where
     after-map = rw (eq-eqb _ _ a)
 
     pub tables-refuse : isAccepted tablesAnswer ≡ false → answer ≡ tablesAnswer
-    tables-refuse e = after-map ∙ refusal-append (tableAnswers (arraySorts L) (entriesOf L) (L .target .rows) (widthsOfTarget L) (noClasses L)) rest ∙ rw e
+    tables-refuse e =
+        after-map ∙ refusal-append (tableAnswers (arraySorts L) (entriesOf L) (L .target .rows) (widthsOfTarget L) (noClasses L)) rest ∙ rw e
 
     module _ (b : isAccepted tablesAnswer ≡ true) where
       after-tables : answer ≡ firstRefusal rest
-      after-tables = after-map ∙ refusal-append (tableAnswers (arraySorts L) (entriesOf L) (L .target .rows) (widthsOfTarget L) (noClasses L)) rest ∙ rw b
+      after-tables =
+          after-map ∙ refusal-append (tableAnswers (arraySorts L) (entriesOf L) (L .target .rows) (widthsOfTarget L) (noClasses L)) rest ∙ rw b
 
       pub rows-refuse : isAccepted (rowsRefusal L) ≡ false → answer ≡ rowsRefusal L
       unfolding firstRefusal
@@ -123,7 +126,8 @@ module _ (L : Lowering) (ws cls0 ent0 : List ℕ) (wide : ws ≡ widthsOfTarget 
     ent-is : ent1 ≡ offsets L
     ent-is = rw clear-too at (placed ok)
 
-    module _ (r : Answer) (cls2 : List ℕ) (rows : r ≡ allRowsAnswer (bindingOf L) (noted cls1 ent1)) (after : cls2 ≡ classesTo (bindingOf L) cls1 (refusedRow (bindingOf L) (noted cls1 ent1))) where
+    module _ (r : Answer) (cls2 : List ℕ) (rows : r ≡ allRowsAnswer (bindingOf L) (noted cls1 ent1))
+        (after : cls2 ≡ classesTo (bindingOf L) cls1 (refusedRow (bindingOf L) (noted cls1 ent1))) where
       rows-are : r ≡ rowsRefusal L
       rows-are = rows ∙ rw (cls-is, ent-is)
 
@@ -142,8 +146,11 @@ module _ (L : Lowering) (ws cls0 ent0 : List ℕ) (wide : ws ≡ widthsOfTarget 
           dead-is = first-dead ∙ rw count (ap (λ (l : List ℕ). deadEntry l (targetRows L)) classes-are)
 
           pub dead-done : dead < length cls2 → Done (DeadEntry dead) cls2 ent1
-          dead-done h = refused (DeadEntry dead) cls2 ent1 (ap DeadEntry dead-is ∙ sym (dead-14 L mapped passed-tables passed-rows (rw (dead-is, count) at h))) refl
+          dead-done h =
+              refused (DeadEntry dead) cls2 ent1 (ap DeadEntry dead-is ∙ sym (dead-14 L mapped passed-tables passed-rows (rw (dead-is, count) at h)))
+              refl
 
           pub roots-done : (a : Answer) → length cls2 ≤ dead
               → a ≡ firstRefusal (rootAnswers (entriesOf L) (L .target) ws (L .map) (L .eroots) (L .troots)) → Done a cls2 ent1
-          roots-done a h e = (rw wide at e ∙ sym (then-roots L mapped passed-tables passed-rows (rw (dead-is, count) at h)), (λ _. classes-are, λ _. ent-is))
+          roots-done a h e =
+              (rw wide at e ∙ sym (then-roots L mapped passed-tables passed-rows (rw (dead-is, count) at h)), (λ _. classes-are, λ _. ent-is))

@@ -12,7 +12,8 @@ use Rattle.rows.specs.Node.{nodeOf}
 use Rattle.lowering.specs.declared.Walk.{Walk}
 use Rattle.lowering.specs.declared.Walk.the-variants.{RanOut, Met, Lost}
 use Rattle.lowering.specs.Images.{mapAt}
-use Rattle.lowering.specs.Matching.{selectWalk, Kind, var, const, core, select, call, unknown, kindOf, endClasses, kindClasses, nodeClasses, rowClasses}
+use Rattle.lowering.specs.Matching.{selectWalk, Kind, var, const, core, select, call, unknown, kindOf, endClasses, kindClasses, nodeClasses}
+use Rattle.lowering.specs.Matching.{rowClasses}
 use Rattle.lowering.specs.Lowering.{Lowering, Binding, bindingOf}
 use Rattle.lowering.specs.Check.{classesOfTables, classes}
 

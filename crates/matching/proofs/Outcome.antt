@@ -24,7 +24,8 @@ use Rattle.matching.specs.Ready.{Formed}
 use Rattle.matching.proofs.Rows.{Plain, const-bits, select-earlier, select-pairs, call-args, plain-row, accepted-matched}
 
 -- row i of the source, with the words e
-module _ (S : SourceGraph) (T : TargetGraph) (F : Formed S T) (i : ℕ) (h : i < rowCount Source (S .rows)) (e : List ℕ) (q : e ≡ rowAt Source (S .rows) i) where
+module _ (S : SourceGraph) (T : TargetGraph) (F : Formed S T) (i : ℕ) (h : i < rowCount Source (S .rows)) (e : List ℕ)
+    (q : e ≡ rowAt Source (S .rows) i) where
   abbrev width : ℕ → ℕ
   width a = getD (widths (F .sorts) Source (length (S .bits)) (S .side) (S .rows)) a 0
 

@@ -17,7 +17,8 @@ use Rattle.rows.proofs.View.{View, is-var, is-const, is-extract, is-extend, is-
 use Rattle.wf.specs.Promise.{RowFormed, Follows, PairFormed, ArgFormed}
 use Rattle.lowering.specs.Lowering.{Binding}
 use Rattle.lowering.specs.Images.{sameConst}
-use Rattle.lowering.specs.Matching.{Noted, mappedArg, selectWalk, endGood, endClasses, callMatches, varMatches, nodeMatches, matched, nodeAnswer, nodeClasses}
+use Rattle.lowering.specs.Matching.{Noted, mappedArg, selectWalk, endGood, endClasses, callMatches, varMatches, nodeMatches, matched, nodeAnswer}
+use Rattle.lowering.specs.Matching.{nodeClasses}
 use Rattle.lowering.specs.Matching.{core, kindOf, kindAnswer, kindClasses}
 
 -- a node that is matched by its mapped row
@@ -47,7 +48,8 @@ module _ {σ : Sorts} (nbits : ℕ) (side : List ℕ) (width : ℕ → ℕ) (i :
   pub select-earlier : getD e 0 0 ≡ tSelect → getD e 2 0 < i
   select-earlier h = (rw h at (formed .earlier)) .0
 
-  pub select-pairs : getD e 0 0 ≡ tSelect → (l : ℕ) → l < getD e 4 0 → PairFormed (σ .index (getD e 1 0)) (σ .cell (getD e 1 0)) side width i (getD e 3 0) l
+  pub select-pairs : getD e 0 0 ≡ tSelect → (l : ℕ) → l < getD e 4 0
+      → PairFormed (σ .index (getD e 1 0)) (σ .cell (getD e 1 0)) side width i (getD e 3 0) l
   select-pairs h = (rw h at (formed .follows)) .2
 
   pub call-args : getD e 0 0 ≡ tCall → (l : ℕ) → l < getD e 4 0 → ArgFormed side i (getD e 3 0) l
@@ -76,22 +78,26 @@ module _ (B : Binding) (N : Noted) (i r : ℕ) (e : List ℕ) (q : e ≡ rowAt S
   pub var-classes : getD e 0 0 ≡ tVar → classes ≡ set (N .classes) r 1
   var-classes h = its-classes ∙ rw h
 
-  pub const-answer : getD e 0 0 ≡ tConst → answer ≡ matched (sameConst (B .source .bits) e (B .target .bits) (rowAt Target (B .target .rows) r)) (ConstMismatch i)
+  pub const-answer : getD e 0 0 ≡ tConst
+      → answer ≡ matched (sameConst (B .source .bits) e (B .target .bits) (rowAt Target (B .target .rows) r)) (ConstMismatch i)
   const-answer h =
-      its-answer ∙ rw h (ap (λ (l : List ℕ). matched (sameConst (B .source .bits) l (B .target .bits) (rowAt Target (B .target .rows) r)) (ConstMismatch i)) (sym q))
+      its-answer ∙ rw h (ap (λ (l : List ℕ). matched (sameConst (B .source .bits) l (B .target .bits) (rowAt Target (B .target .rows) r))
+      (ConstMismatch i)) (sym q))
 
   pub const-classes : getD e 0 0 ≡ tConst → classes ≡ N .classes
   const-classes h = its-classes ∙ rw h
 
   pub select-answer : getD e 0 0 ≡ tSelect
-      → answer ≡ matched (endGood (B .map) (B .reads) (B .target .rows) N (getD e 1 0) (getD e 2 0) (selectWalk B r (getD e 2 0) (getD e 3 0) (getD e 4 0))) (ChainMismatch i)
+      → answer ≡ matched (endGood (B .map) (B .reads) (B .target .rows) N (getD e 1 0) (getD e 2 0)
+      (selectWalk B r (getD e 2 0) (getD e 3 0) (getD e 4 0))) (ChainMismatch i)
   select-answer h = its-answer ∙ rw h
 
   pub select-classes : getD e 0 0 ≡ tSelect → classes ≡ endClasses (N .classes) (selectWalk B r (getD e 2 0) (getD e 3 0) (getD e 4 0))
   select-classes h = its-classes ∙ rw h
 
   pub call-answer : getD e 0 0 ≡ tCall
-      → answer ≡ matched (callMatches (B .calls) (B .cargs) (B .target .rows) N (getD e 1 0) (getD e 2 0) (getD e 4 0) (mappedArg (B .map) (B .source .side) (getD e 3 0)) r) (CallMismatch i)
+      → answer ≡ matched (callMatches (B .calls) (B .cargs) (B .target .rows) N (getD e 1 0) (getD e 2 0) (getD e 4 0)
+      (mappedArg (B .map) (B .source .side) (getD e 3 0)) r) (CallMismatch i)
   call-answer h = its-answer ∙ rw h
 
   pub call-classes : getD e 0 0 ≡ tCall → classes ≡ set (N .classes) r 5

@@ -24,7 +24,8 @@ model words =
     }
 
 -- Var(32), Var(8), Var(8); Select(7,0) bare, through the pairs (0,1),(0,2), and Call(3,8) of row 1 and of nothing
-some-source : sourceValues plain (s5 0 32 0 0 0 (s5 0 8 0 0 0 (s5 0 8 0 0 0 (s5 37 7 0 0 0 (s5 37 7 0 0 2 (s5 38 3 8 1 1 (s5 38 3 8 9 0 []))))))) [] (0 ∷ 1 ∷ 0 ∷ 2 ∷ []) (model (5 ∷ 40 ∷ 50 ∷ [])) 7
+some-source : sourceValues plain (s5 0 32 0 0 0 (s5 0 8 0 0 0 (s5 0 8 0 0 0 (s5 37 7 0 0 0 (s5 37 7 0 0 2 (s5 38 3 8 1 1 (s5 38 3 8 9 0 []))))))) []
+    (0 ∷ 1 ∷ 0 ∷ 2 ∷ []) (model (5 ∷ 40 ∷ 50 ∷ [])) 7
     ≡ val 32 5 ∷ val 8 40 ∷ val 8 50 ∷ val 8 6 ∷ val 8 40 ∷ val 8 41 ∷ val 8 0 ∷ []
 unfolding build operate stored tabulate
 some-source = refl
@@ -36,7 +37,8 @@ unfolding build operate stored tabulate
 passed-over = refl
 
 -- "The new scale has 16-bit addresses and 16-bit cells": array 7 beside array 9 of three bits; a Select has its own array's cell width
-two-shapes : sourceValues (sortsOf (secondEdition (7 ∷ 16 ∷ 16 ∷ 9 ∷ 2 ∷ 3 ∷ []))) (s5 0 16 0 0 0 (s5 0 2 0 0 0 (s5 37 7 0 0 0 (s5 37 9 1 0 0 [])))) [] [] (model (5 ∷ 1 ∷ [])) 4
+two-shapes : sourceValues (sortsOf (secondEdition (7 ∷ 16 ∷ 16 ∷ 9 ∷ 2 ∷ 3 ∷ []))) (s5 0 16 0 0 0 (s5 0 2 0 0 0 (s5 37 7 0 0 0 (s5 37 9 1 0 0 []))))
+    [] [] (model (5 ∷ 1 ∷ [])) 4
     ≡ val 16 5 ∷ val 2 1 ∷ val 16 6 ∷ val 3 2 ∷ []
 unfolding build operate stored tabulate first
 two-shapes = refl

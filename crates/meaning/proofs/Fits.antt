@@ -51,7 +51,8 @@ stored-fits look side x cell m (suc k) s c f =
 module _ (σ : Sorts) (bits side : List ℕ) (width : ℕ → ℕ) (look : ℕ → Val) (i : ℕ) (agree : (a : ℕ) → a < i → wid (look a) ≡ width a)
     (fits : (a : ℕ) → Fit (look a)) (bit : (k : ℕ) → getD bits k 0 < 2) (I : Interpretation)
     (cells : (a x : ℕ) → I .array a x < 2 ^ σ .cell a) (results : (f w : ℕ) (vs : List Val) → I .function f w vs < 2 ^ w) where
-  core : (node : Node) → TagGood node → tagOf node < 37 → RowFormed σ (length bits) side width i node → ((w : ℕ) → node ≡ Var w → I .variable i < 2 ^ w)
+  core : (node : Node) → TagGood node → tagOf node < 37 → RowFormed σ (length bits) side width i node
+      → ((w : ℕ) → node ≡ Var w → I .variable i < 2 ^ w)
       → (wid (nodeValue bits (I .variable) look i node) ≡ width i) × Fit (nodeValue bits (I .variable) look i node)
   core node g c r v = row-formed bits side width look i agree (I .variable) node bit fits g c r v
 
@@ -109,7 +110,8 @@ module _ (σ : Sorts) (bits side g ws : List ℕ) (I : Interpretation) (formed :
               rw (List·getD-eq-default (sourceValues σ g bits side I i) (val 0 0) past) (omega arith)
 
 -- the same of a source that passes the tests of its bits and its form, with the widths that it then has
-pub source-fits : (σ : Sorts) (bits side g : List ℕ) (I : Interpretation) → length bits ≤ badBit bits → rowCount Source g ≤ illRow σ Source (length bits) side g
+pub source-fits : (σ : Sorts) (bits side g : List ℕ) (I : Interpretation) → length bits ≤ badBit bits
+    → rowCount Source g ≤ illRow σ Source (length bits) side g
     → OfKind σ I g → (i : ℕ) → i < rowCount Source g
     → (wid (sourceValue σ g bits side I i) ≡ getD (widths σ Source (length bits) side g) i 0) × Fit (sourceValue σ g bits side I i)
 source-fits σ bits side g I b r kind =

@@ -25,7 +25,8 @@ use Rattle.rows.proofs.Tags.{un-tags, extend-tags}
 use Rattle.rows.proofs.View.{TagGood, node-good}
 use Rattle.wf.specs.Promise.{RowFormed, WellFormed}
 use Rattle.value.specs.Val.{Val, val, wid, arg}
-use Rattle.meaning.specs.Meaning.{Interpretation, OfKind, sourceNode, sourceRow, sourceValues, sourceValue, isTrue, RootsTrue, SourceSatisfiable}
+use Rattle.meaning.specs.Meaning.{Interpretation, OfKind, sourceNode, sourceRow, sourceValues, sourceValue, isTrue, RootsTrue}
+use Rattle.meaning.specs.Meaning.{SourceSatisfiable}
 use Rattle.meaning.proofs.Values.{source-width}
 
 -- two interpretations agree on what a source names; a Call of k arguments from s on asks for its symbol at some lists of values
@@ -49,7 +50,8 @@ Asks σ Asked g bits side I =
 pub roots-same : (f h : ℕ → Val) → ((i : ℕ) → f i ≡ h i) → (roots : List ℕ) → RootsTrue f roots → RootsTrue h roots
 roots-same f h e roots r k l = ap isTrue (sym (e (getD roots k 0))) ∙ r k l
 
-module _ (σ : Sorts) (Asked : ℕ → ℕ → List Val → Type 0) (g bits side : List ℕ) (I J : Interpretation) (same : SameNames Asked g I J) (asks : Asks σ Asked g bits side I) where
+module _ (σ : Sorts) (Asked : ℕ → ℕ → List Val → Type 0) (g bits side : List ℕ) (I J : Interpretation) (same : SameNames Asked g I J)
+    (asks : Asks σ Asked g bits side I) where
   -- a row over the same values before it
   row-same : (i : ℕ) → i < rowCount Source g → (node : Node) → nodeOf (rowAt Source g i) ≡ node → TagGood node
       → sourceNode σ bits side I (λ a. getD (sourceValues σ g bits side I i) a (val 0 0)) i node
@@ -122,7 +124,8 @@ module _ (σ : Sorts) (g bits side : List ℕ) (I : Interpretation) where
       → RootsTrue (sourceValue σ g bits side J) roots
   named-roots J same = roots-same _ _ (named-values J same)
 
-  pub named-satisfies : (roots : List ℕ) → KindNamed σ Every g I → RootsTrue (sourceValue σ g bits side I) roots → SourceSatisfiable σ g bits side roots
+  pub named-satisfies : (roots : List ℕ) → KindNamed σ Every g I → RootsTrue (sourceValue σ g bits side I) roots
+      → SourceSatisfiable σ g bits side roots
   named-satisfies = kind-satisfies σ Every g bits side I (λ i f w s k h e. tt)
 
 -- ---- in a well-formed source, a symbol at the lists of values that it takes: as many as the Call has arguments, of their rows' widths
@@ -153,7 +156,8 @@ module _ (σ : Sorts) (g bits side ws : List ℕ) (I : Interpretation) (formed :
           ap wid (sym (build-stay (sourceRow σ g bits side I) (val 0 0) (rowCount Source g) i (getD side (s + l) 0) b (omega arith)))
           ∙ source-width bits side g ws I formed (getD side (s + l) 0) (omega arith)
 
-  pub symbol-values : (J : Interpretation) → SameNames (OfSymbol side ws) g I J → (i : ℕ) → sourceValue σ g bits side I i ≡ sourceValue σ g bits side J i
+  pub symbol-values : (J : Interpretation) → SameNames (OfSymbol side ws) g I J → (i : ℕ)
+      → sourceValue σ g bits side I i ≡ sourceValue σ g bits side J i
   symbol-values J same = value-same σ (OfSymbol side ws) g bits side I J same asks-symbols
 
   pub symbol-roots : (J : Interpretation) → SameNames (OfSymbol side ws) g I J → (roots : List ℕ) → RootsTrue (sourceValue σ g bits side I) roots

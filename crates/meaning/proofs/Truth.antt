@@ -79,7 +79,8 @@ source-ne σ g bits side roots k v h l e (I, kind, r) =
     let i = getD roots k 0 in
     let look : ℕ → Val = λ a. getD (build (sourceRow σ g bits side I) i) a (val 0 0) in
     not-true (sourceValue σ g bits side I) roots k h
-    (ap isTrue (build-at (sourceRow σ g bits side I) (val 0 0) (rowCount Source g) i l ∙ ap (sourceNode σ bits side I look i) e) ∙ ne-itself bits (I .variable) look i v)
+    (ap isTrue (build-at (sourceRow σ g bits side I) (val 0 0) (rowCount Source g) i l ∙ ap (sourceNode σ bits side I look i) e)
+    ∙ ne-itself bits (I .variable) look i v)
     r
 
 pub target-ne : (g bits roots : List ℕ) (k v : ℕ) → k < length roots → getD roots k 0 < rowCount Target g
@@ -88,7 +89,8 @@ target-ne g bits roots k v h l e (given, fits, r) =
     let i = getD roots k 0 in
     let look : ℕ → Val = λ a. getD (build (rowValue bits given g) i) a (val 0 0) in
     not-true (value bits given g) roots k h
-    (ap isTrue (build-at (rowValue bits given g) (val 0 0) (rowCount Target g) i l ∙ ap (nodeValue bits given look i) e) ∙ ne-itself bits given look i v)
+    (ap isTrue (build-at (rowValue bits given g) (val 0 0) (rowCount Target g) i l ∙ ap (nodeValue bits given look i) e)
+    ∙ ne-itself bits given look i v)
     r
 
 -- ---- closed graphs

@@ -28,15 +28,21 @@ use Rattle.meaning.specs.Meaning.{Interpretation, stored, sourceNode, so
 abbrev pub Pairs : ℕ → ℕ → (ℕ → ℕ) → ℕ → List ℕ → ℕ → ℕ → Type 0
 Pairs iw cw width i side zero s = Unit {0}
 Pairs iw cw width i side (suc k) s =
-    (getD side s 0 < i) × (width (getD side s 0) ≡ iw) × (getD side (s + 1) 0 < i) × (width (getD side (s + 1) 0) ≡ cw) × Pairs iw cw width i side k (s + 2)
+    (getD side s 0 < i) × (width (getD side s 0) ≡ iw) × (getD side (s + 1) 0 < i) × (width (getD side (s + 1) 0) ≡ cw)
+    × Pairs iw cw width i side k (s + 2)
 
 pub pairs-formed : (iw cw : ℕ) (width : ℕ → ℕ) (i : ℕ) (side : List ℕ) (k s : ℕ) → ((l : ℕ) → l < k → PairFormed iw cw side width i s l)
     → Pairs iw cw width i side k s
 pairs-formed iw cw width i side zero s f = tt
 pairs-formed iw cw width i side (suc k) s f =
     let p = f 0 (omega arith) in
-    let z : s + 2 * 0 ≡ s = omega arith in
-    (rw z at (p .index-earlier), rw z at (p .index-width), rw z at (p .value-earlier), rw z at (p .value-width), pairs-formed iw cw width i side k (s + 2) (λ l h. next l (f (suc l) (omega arith))))
+    let z : s + 2 * 0 ≡ s = omega arith in (
+      rw z at (p .index-earlier),
+      rw z at (p .index-width),
+      rw z at (p .value-earlier),
+      rw z at (p .value-width),
+      pairs-formed iw cw width i side k (s + 2) (λ l h. next l (f (suc l) (omega arith))),
+    )
   where
     next : (l : ℕ) → PairFormed iw cw side width i s (suc l) → PairFormed iw cw side width i (s + 2) l
     next l p =
@@ -76,8 +82,10 @@ module _ (look see : ℕ → Val) (i : ℕ) (same : (a : ℕ) → a < i → look
   source-look bits side I width (Extend t a n) r = node-look bits (I .variable) (Extend t a n) (r .earlier)
   source-look bits side I width (Ite c t e) r = node-look bits (I .variable) (Ite c t e) (r .earlier)
   source-look {σ = σ} bits side I width (Select a j s k) r =
-      rw (same j (r .earlier .0)) (ap (val (σ .cell a)) (stored-look (σ .index a) (σ .cell a) width side _ _ k s (pairs-formed (σ .index a) (σ .cell a) width i side k s (r .follows .2))))
-  source-look bits side I width (Call f w s k) r = ap (λ (vs : List Val). val w (I .function f w vs)) (tabulate-same _ _ k (λ l h. same _ (r .follows .1 l h .arg-earlier)))
+      rw (same j (r .earlier .0)) (ap (val (σ .cell a)) (stored-look (σ .index a) (σ .cell a) width side _ _ k s
+      (pairs-formed (σ .index a) (σ .cell a) width i side k s (r .follows .2))))
+  source-look bits side I width (Call f w s k) r =
+      ap (λ (vs : List Val). val w (I .function f w vs)) (tabulate-same _ _ k (λ l h. same _ (r .follows .1 l h .arg-earlier)))
   source-look bits side I width Unknown r = refl
 
 module _ {σ : Sorts} (bits side g ws : List ℕ) (given : ℕ → ℕ) (formed : WellFormed σ Target (length bits) side g ws) where
@@ -86,7 +94,8 @@ module _ {σ : Sorts} (bits side g ws : List ℕ) (given : ℕ → ℕ) (formed 
   target-value r h =
       let f = rowValue bits given g in
       build-at f (val 0 0) (rowCount Target g) r h
-      ∙ sym (node-look _ _ r (λ a l. build-stay f (val 0 0) (rowCount Target g) r a l (omega arith)) bits given (nodeOf (rowAt Target g r)) (formed r h .earlier))
+      ∙ sym (node-look _ _ r (λ a l. build-stay f (val 0 0) (rowCount Target g) r a l (omega arith)) bits given (nodeOf (rowAt Target g r))
+      (formed r h .earlier))
 
 module _ {σ : Sorts} (bits side g ws : List ℕ) (I : Interpretation) (formed : WellFormed σ Source (length bits) side g ws) where
   pub source-value : (i : ℕ) → i < rowCount Source g
@@ -94,11 +103,14 @@ module _ {σ : Sorts} (bits side g ws : List ℕ) (I : Interpretation) (formed :
   source-value i h =
       let f = sourceRow σ g bits side I in
       build-at f (val 0 0) (rowCount Source g) i h
-      ∙ sym (source-look _ _ i (λ a l. build-stay f (val 0 0) (rowCount Source g) i a l (omega arith)) bits side I (λ a. getD ws a 0) (nodeOf (rowAt Source g i)) (formed i h))
+      ∙ sym (source-look _ _ i (λ a l. build-stay f (val 0 0) (rowCount Source g) i a l (omega arith)) bits side I (λ a. getD ws a 0)
+      (nodeOf (rowAt Source g i)) (formed i h))
 
   -- a source value has its row's width
   pub source-width : (i : ℕ) → i < rowCount Source g → wid (sourceValue σ g bits side I i) ≡ getD ws i 0
-  source-width = strong P (λ i ih h. ap wid (source-value i h) ∙ step i (nodeOf (rowAt Source g i)) (node-good (rowAt Source g i)) (λ a l. ih a l (omega arith)) (formed i h))
+  source-width =
+      strong P (λ i ih h. ap wid (source-value i h) ∙ step i (nodeOf (rowAt Source g i)) (node-good (rowAt Source g i)) (λ a l. ih a l (omega arith))
+      (formed i h))
     where
       P : ℕ → Type 0
       P i = i < rowCount Source g → wid (sourceValue σ g bits side I i) ≡ getD ws i 0
@@ -117,10 +129,12 @@ module _ {σ : Sorts} (bits side g ws : List ℕ) (I : Interpretation) (formed :
           → wid (sourceNode σ bits side I look i node) ≡ width i
       step i (Var w) t ih r = sym (r .follows)
       step i (Const s w) t ih r = core i (Const s w) t (omega arith) (λ z. omega arith) ih r
-      step i (Un k a) t ih r = core i (Un k a) t (un-tags (λ z. z < 37) k (omega arith) (omega arith) (omega arith) t) (eqb-false k tVar (apart isUn tVar k refl t)) ih r
+      step i (Un k a) t ih r =
+          core i (Un k a) t (un-tags (λ z. z < 37) k (omega arith) (omega arith) (omega arith) t) (eqb-false k tVar (apart isUn tVar k refl t)) ih r
       step i (Bin k a b) t ih r = core i (Bin k a b) t (t .core) (eqb-false k tVar (t .no-var)) ih r
       step i (Extract h l a) t ih r = core i (Extract h l a) t (omega arith) (λ z. omega arith) ih r
-      step i (Extend k a n) t ih r = core i (Extend k a n) t (extend-tags (λ z. z < 37) k (omega arith) (omega arith) t) (eqb-false k tVar (apart isExtend tVar k refl t)) ih r
+      step i (Extend k a n) t ih r =
+          core i (Extend k a n) t (extend-tags (λ z. z < 37) k (omega arith) (omega arith) t) (eqb-false k tVar (apart isExtend tVar k refl t)) ih r
       step i (Ite c a b) t ih r = core i (Ite c a b) t (omega arith) (λ z. omega arith) ih r
       step i (Select a j s k) t ih r = sym (r .follows .0)
       step i (Call f w s k) t ih r = sym (r .follows .0)

@@ -26,7 +26,8 @@ module _ (troots : List ℕ) (test : ℕ → Pair → Bool) where
   unfolding walked first
   walk-stop from p ps e = rw (add-zero from, e, eqb·zero-suc, add-zero from)
 
-  pub walk-on : (from : ℕ) (p : Pair) (ps : List Pair) → rootAt troots test from p ≡ true → walked troots test from (p ∷ ps) ≡ walked troots test (from + 1) ps
+  pub walk-on : (from : ℕ) (p : Pair) (ps : List Pair) → rootAt troots test from p ≡ true
+      → walked troots test from (p ∷ ps) ≡ walked troots test (from + 1) ps
   unfolding walked first
   walk-on from p ps e = simp (add-suc, add-one, suc-add, add-zero, e, eqb·suc-suc)
 
@@ -39,9 +40,11 @@ module _ (troots : List ℕ) (test : ℕ → Pair → Bool) where
     where
       go : (b : Bool) → rootAt troots test from p ≡ b
           → walked troots test (from + 1) (ps ++ qs)
-          ≡ cond (walked troots test (from + 1) ps .ok) (walked troots test (walked troots test (from + 1) ps .next) qs) (walked troots test (from + 1) ps)
+          ≡ cond (walked troots test (from + 1) ps .ok) (walked troots test (walked troots test (from + 1) ps .next) qs)
+          (walked troots test (from + 1) ps)
           → walked troots test from (p ∷ (ps ++ qs))
-          ≡ cond (walked troots test from (p ∷ ps) .ok) (walked troots test (walked troots test from (p ∷ ps) .next) qs) (walked troots test from (p ∷ ps))
+          ≡ cond (walked troots test from (p ∷ ps) .ok) (walked troots test (walked troots test from (p ∷ ps) .next) qs)
+          (walked troots test from (p ∷ ps))
       go true e more = rw (walk-on from p (ps ++ qs) e, walk-on from p ps e) more
       go false e more = rw (walk-stop from p (ps ++ qs) e, walk-stop from p ps e)
 

@@ -52,7 +52,15 @@ view t a b c d =
     choice Here (eqb t tSelect) _ _ (λ e. is-select (eqb-true t tSelect e)) (λ _.
     choice Here (eqb t tCall) _ _ (λ e. is-call (eqb-true t tCall e)) (λ _.
     choice Here (ltb t tSelect) _ _
-    (λ e. is-bin (record { no-var = no-var; no-const = no-const; no-extract = no-extract; no-extend = no-extend; no-ite = no-ite; no-un = no-un; core = ltb-true t tSelect e }))
+    (λ e. is-bin (record {
+      no-var = no-var;
+      no-const = no-const;
+      no-extract = no-extract;
+      no-extend = no-extend;
+      no-ite = no-ite;
+      no-un = no-un;
+      core = ltb-true t tSelect e;
+    }))
     (λ e. is-unknown (ltb-false t tSelect e))))))))))
   where
     Here : Node → Type 0

@@ -47,7 +47,8 @@ module _ (σ : Sorts) (nbits : ℕ) (side ws : List ℕ) (a b c d : ℕ) where
 
   -- a line is its tag's rule, of rows whose unused fields are 0, within the ceiling
   pub line-rule : (t : ℕ) → t < 39
-      → capped (lineWidth σ nbits side ws (lineAt t) a b c d) ≡ cond (fieldsGood (fieldCount t) b c d) (nodeWidth σ nbits side ws (nodeFrom t a b c d)) 0
+      → capped (lineWidth σ nbits side ws (lineAt t) a b c d)
+      ≡ cond (fieldsGood (fieldCount t) b c d) (nodeWidth σ nbits side ws (nodeFrom t a b c d)) 0
   unfolding by-line by-rule
   line-rule t h =
       let node = nodeFrom t a b c d in

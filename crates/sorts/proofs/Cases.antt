@@ -51,7 +51,8 @@ unfolding first sortGood all
 case-equal = refl
 
 -- "zero-width": the index's, the cell's; a width above the ceiling is not looked at here
-case-zero : sortAnswer (secondEdition (7 ∷ 0 ∷ 16 ∷ [])) ∷ sortAnswer (secondEdition (7 ∷ 16 ∷ 0 ∷ [])) ∷ sortAnswer (secondEdition (7 ∷ 16 ∷ 4097 ∷ [])) ∷ []
+case-zero : sortAnswer (secondEdition (7 ∷ 0 ∷ 16 ∷ [])) ∷ sortAnswer (secondEdition (7 ∷ 16 ∷ 0 ∷ []))
+    ∷ sortAnswer (secondEdition (7 ∷ 16 ∷ 4097 ∷ [])) ∷ []
     ≡ SortTable 0 ∷ SortTable 0 ∷ Accepted ∷ []
 unfolding first sortGood all
 case-zero = refl

@@ -56,7 +56,8 @@ module _ (table : List ℕ) where
     good-at : (k : ℕ) → k < sortCount table → sortGood table k ≡ true
     good-at k h = not-false _ (first-before (λ j. not (sortGood table j)) (sortCount table) k (go (ltb (badSort table) (sortCount table)) refl good))
       where
-        go : (b : Bool) → ltb (badSort table) (sortCount table) ≡ b → isAccepted (cond b (SortTable (badSort table)) Accepted) ≡ true → k < badSort table
+        go : (b : Bool) → ltb (badSort table) (sortCount table) ≡ b → isAccepted (cond b (SortTable (badSort table)) Accepted) ≡ true
+            → k < badSort table
         go true e x = no-way (sym x)
         go false e x = let l : sortCount table ≤ badSort table = ltb-false _ _ e in omega arith
 

@@ -65,8 +65,10 @@ module _ (L : Lowering) (slice : length (L .target .rows) ≤ MAX) (tests : Pass
   pub passed-forward : (I : Interpretation) (given : ℕ → ℕ) → Assigns given (L .target .rows) → SourceTrue L I
       → TargetTrue L (assignment L I given) × ImagesAgree L I (assignment L I given)
   passed-forward I given free (kinds, roots) =
-      let fits = assignment-fits L graphs facts I given kinds free in
-      ((fits, forward-roots L graphs facts I given fits roots), λ i (h, k). let w = within L tests i h k in (w, forward-agree L graphs facts I given fits i (h, w)))
+      let fits = assignment-fits L graphs facts I given kinds free in (
+        (fits, forward-roots L graphs facts I given fits roots),
+        λ i (h, k). let w = within L tests i h k in (w, forward-agree L graphs facts I given fits i (h, w)),
+      )
 
   pub passed-backward : (A : ℕ → ℕ) (J : Interpretation) → OfKind (arraySorts L) J (L .source .rows) → TargetTrue L A
       → SourceTrue L (interpretation L A J) × ImagesAgree L (interpretation L A J) A

@@ -81,10 +81,14 @@ module _ (L : Lowering) (F : Formed L) (M : Matched L) (I : Interpretation) (A :
   LeafCall = (q r f i w k : ℕ) (xs : ℕ → ℕ) → CallOf L q r f k (λ l. m L (xs l)) → T L r ≡ Var w → ((l : ℕ) → l < k → xs l < i) → i < sourceRows L
       → ((j : ℕ) → j < i → Agree j) → I .function f w (tabulate (λ l. sv (xs l)) k) ≡ A r
 
-  node-value : (i : ℕ) (node : Node) → i < sourceRows L → S L i ≡ node → sv i ≡ sourceNode (arraySorts L) (L .source .bits) (L .source .side) I sv i node
-  node-value i node h e = source-value (L .source .bits) (L .source .side) (L .source .rows) (widthsOfSource L) I (F .source-formed) i h ∙ ap (sourceNode (arraySorts L) (L .source .bits) (L .source .side) I sv i) e
+  node-value : (i : ℕ) (node : Node) → i < sourceRows L → S L i ≡ node
+      → sv i ≡ sourceNode (arraySorts L) (L .source .bits) (L .source .side) I sv i node
+  node-value i node h e =
+      source-value (L .source .bits) (L .source .side) (L .source .rows) (widthsOfSource L) I (F .source-formed) i h
+      ∙ ap (sourceNode (arraySorts L) (L .source .bits) (L .source .side) I sv i) e
 
-  node-formed : (i : ℕ) (node : Node) → i < sourceRows L → S L i ≡ node → RowFormed (arraySorts L) (length (L .source .bits)) (L .source .side) sw i node
+  node-formed : (i : ℕ) (node : Node) → i < sourceRows L → S L i ≡ node
+      → RowFormed (arraySorts L) (length (L .source .bits)) (L .source .side) sw i node
   node-formed i node h e = rw e at (F .source-formed i h)
 
   -- operands and their images
@@ -97,13 +101,16 @@ module _ (L : Lowering) (F : Formed L) (M : Matched L) (I : Interpretation) (A :
   core-agree : (i : ℕ) (node : Node) → ((j : ℕ) → j < i → Agree j) → Mapped L i → S L i ≡ node → SameCore L node (T L (m L i))
       → nodeValue (L .source .bits) (I .variable) sv i node ≡ tv′ (m L i)
   core-agree i node ih (h, k) e c =
-      let b : Below (m L i) (map (m L) (operands node)) = rw (c .mapped-operands) at (row-formed L F A assigns (m L i) (T L (m L i)) k refl .earlier) in
-      let s : map sv (operands node) ≡ map tv′ (operands (T L (m L i))) = images i (m L i) (operands node) ih h k (node-formed i node h e .earlier) b ∙ ap (map tv′) (sym (c .mapped-operands)) in
+      let b : Below (m L i) (map (m L) (operands node)) =
+      rw (c .mapped-operands) at (row-formed L F A assigns (m L i) (T L (m L i)) k refl .earlier) in
+      let s : map sv (operands node) ≡ map tv′ (operands (T L (m L i))) =
+      images i (m L i) (operands node) ih h k (node-formed i node h e .earlier) b ∙ ap (map tv′) (sym (c .mapped-operands)) in
       sym (row-value L F A assigns (m L i) (T L (m L i)) k refl ∙ rw (c .same-tag, c .no-var, c .same-parameters, ← s))
 
   -- a constant row's value
   const-value : (i : ℕ) → i < sourceRows L → getD (rowAt Source (L .source .rows) i) 0 0 ≡ tConst
-      → sv i ≡ val (getD (rowAt Source (L .source .rows) i) 2 0) (constNumber (L .source .bits) (getD (rowAt Source (L .source .rows) i) 1 0) (getD (rowAt Source (L .source .rows) i) 2 0))
+      → sv i ≡ val (getD (rowAt Source (L .source .rows) i) 2 0)
+      (constNumber (L .source .bits) (getD (rowAt Source (L .source .rows) i) 1 0) (getD (rowAt Source (L .source .rows) i) 2 0))
   unfolding operate
   const-value i h e = node-value i _ h (const-row (rowAt Source (L .source .rows) i) e)
 
@@ -112,14 +119,17 @@ module _ (L : Lowering) (F : Formed L) (M : Matched L) (I : Interpretation) (A :
 
   -- the walk along a Select's pairs: from row r on, it computes what the pairs from s on store, else the cell
   walk-agree : LeafRead → (i a j : ℕ) → ((x : ℕ) → x < i → Agree x) → i < sourceRows L → j < i → sw j ≡ arraySorts L .index a
-      → (k s r : ℕ) → Pairs (arraySorts L .index a) (arraySorts L .cell a) sw i (L .source .side) k s → r < targetRows L → Ends L a j (walkOf L j k s r)
+      → (k s r : ℕ) → Pairs (arraySorts L .index a) (arraySorts L .cell a) sw i (L .source .side) k s → r < targetRows L
+      → Ends L a j (walkOf L j k s r)
       → (nat (tv′ r) ≡ stored sv (L .source .side) (nat (sv j)) (I .array a (nat (sv j))) k s) × (wid (tv′ r) ≡ arraySorts L .cell a)
   unfolding walk stored
   walk-agree leaf i a j ih h lj wj zero s r p hr (q, z) =
       let e = M .of-read q (z .inside) in
       let (x, mx, ex) = e .index-image in
       let mj : Mapped L j = (omega arith, rw (← z .index-is, ← ex) (mx .1)) in
-      let v : tv′ r ≡ val (arraySorts L .cell a) (A r) = row-value L F A assigns r (Var (arraySorts L .cell a)) hr (subst (λ (b : ℕ). T L r ≡ Var (arraySorts L .cell b)) (z .array-is) (rw (z .variable-is) at (e .is-var))) in
+      let v : tv′ r ≡ val (arraySorts L .cell a) (A r) =
+      row-value L F A assigns r (Var (arraySorts L .cell a)) hr
+      (subst (λ (b : ℕ). T L r ≡ Var (arraySorts L .cell b)) (z .array-is) (rw (z .variable-is) at (e .is-var))) in
       (ap nat v ∙ sym (leaf q r a j z mj (λ x l. ih x (omega arith))), ap wid v)
   walk-agree leaf i a j ih h lj wj (suc k) s r (lp, wp, lv, wv, rest) hr t =
       go (λ y hy u. walk-agree leaf i a j ih h lj wj k (s + 2) y rest hy u) _ refl _ refl _ refl t
@@ -156,8 +166,11 @@ module _ (L : Lowering) (F : Formed L) (M : Matched L) (I : Interpretation) (A :
           let (np, nj, same) = same-const (L .source .bits) (L .source .bits) sp sj ec in
           let n = ap (λ (l : List ℕ). getD l 1 0) (rw (np, nj) at same) in
           let e : nat (sv p) ≡ x = ap nat (const-value p (omega arith) kp) ∙ n ∙ sym (ap nat (const-value j (omega arith) kj)) in
-          let v′ : sv v ≡ tv′ r = ih v lv (omega arith, rw (← u) hr) ∙ ap tv′ (sym u) in
-          (rw (eq-eqb _ _ e, v′), ap wid (sym v′) ∙ source-width (L .source .bits) (L .source .side) (L .source .rows) (widthsOfSource L) I (F .source-formed) v (omega arith) ∙ wv)
+          let v′ : sv v ≡ tv′ r = ih v lv (omega arith, rw (← u) hr) ∙ ap tv′ (sym u) in (
+            rw (eq-eqb _ _ e, v′),
+            ap wid (sym v′) ∙ source-width (L .source .bits) (L .source .side) (L .source .rows) (widthsOfSource L) I
+                (F .source-formed) v (omega arith) ∙ wv,
+          )
       go rec true eb false ec d ed u =
           let (kp, kj) = both-const sp sj eb in
           let w : getD sp 2 0 ≡ getD sj 2 0 = sym (const-width p (omega arith) kp) ∙ wp ∙ sym wj ∙ const-width j (omega arith) kj in

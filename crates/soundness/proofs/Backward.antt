@@ -90,7 +90,8 @@ module _ (L : Lowering) (F : Formed L) (M : Matched L) (A : ℕ → ℕ) (fits :
   unfolding readHit
   read-hit q a x e = let (b, (c, _)) = all-true _ e in (eqb-true _ _ b, eqb-true _ _ c)
 
-  call-hits : (q f w : ℕ) (vs : List Val) → callFunction (L .calls) q ≡ f → fieldAt (L .target .rows) (callVar (L .calls) q) 1 ≡ w → args q ≡ vs → callHit L A f w vs q ≡ true
+  call-hits : (q f w : ℕ) (vs : List Val) → callFunction (L .calls) q ≡ f → fieldAt (L .target .rows) (callVar (L .calls) q) 1 ≡ w → args q ≡ vs
+      → callHit L A f w vs q ≡ true
   unfolding callHit all
   call-hits q f w vs e z n = rw (eq-eqb _ _ e, eq-eqb _ _ z, n, sameVals-refl vs)
 
@@ -129,14 +130,17 @@ module _ (L : Lowering) (F : Formed L) (M : Matched L) (A : ℕ → ℕ) (fits :
 
   -- two constant index rows that differ have unequal numbers
   constants : (k l : ℕ) → k < readCount (L .reads) → l < readCount (L .reads) → readArray (L .reads) k ≡ readArray (L .reads) l
-      → unequalConst (L .target .bits) (rowAt Target (L .target .rows) (readIndex (L .reads) k)) (rowAt Target (L .target .rows) (readIndex (L .reads) l)) ≡ true
+      → unequalConst (L .target .bits) (rowAt Target (L .target .rows) (readIndex (L .reads) k))
+      (rowAt Target (L .target .rows) (readIndex (L .reads) l)) ≡ true
       → nat (v (readIndex (L .reads) k)) ≡ nat (v (readIndex (L .reads) l)) → ⊥
   unfolding unequalConst operate
   constants k l hk hl e u n =
       let (b, (d, _)) = all-true _ u in
       let (ck, cl) = both-const (row k) (row l) b in
-      let w : getD (row k) 2 0 ≡ getD (row l) 2 0 = sym (ap wid (const k hk ck)) ∙ index-width k hk ∙ ap (arraySorts L .index) e ∙ sym (index-width l hl) ∙ ap wid (const l hl cl) in
-      unequal-numbers (L .target .bits) (L .target .bits) (row k) (row l) (F .target-bits) (F .target-bits) b (not-true _ d) w (sym (ap nat (const k hk ck)) ∙ n ∙ ap nat (const l hl cl))
+      let w : getD (row k) 2 0 ≡ getD (row l) 2 0 =
+      sym (ap wid (const k hk ck)) ∙ index-width k hk ∙ ap (arraySorts L .index) e ∙ sym (index-width l hl) ∙ ap wid (const l hl cl) in
+      unequal-numbers (L .target .bits) (L .target .bits) (row k) (row l) (F .target-bits) (F .target-bits) b (not-true _ d) w
+      (sym (ap nat (const k hk ck)) ∙ n ∙ ap nat (const l hl cl))
     where
       row : ℕ → List ℕ
       row q = rowAt Target (L .target .rows) (readIndex (L .reads) q)
@@ -162,7 +166,8 @@ module _ (L : Lowering) (F : Formed L) (M : Matched L) (A : ℕ → ℕ) (fits :
 
         root : (q : ℕ) × (q < length (L .troots)) × ReadCong L k l (rootOf L q) → A (readVar (L .reads) k) ≡ A (readVar (L .reads) l)
         root (q, hq, c) =
-            sym (read-number k hk) ∙ ap nat (tells-out (cong-tells L F A fits _ _ 1 _ _ (rootOf L q) c) (eqb-true _ _ (true-roots q hq)) (λ x b. same)) ∙ read-number l hl
+            sym (read-number k hk) ∙ ap nat (tells-out (cong-tells L F A fits _ _ 1 _ _ (rootOf L q) c) (eqb-true _ _ (true-roots q hq))
+            (λ x b. same)) ∙ read-number l hl
 
     calls-agree : (k l : ℕ) → k ≤ l → l < callCount (L .calls) → callFunction (L .calls) k ≡ callFunction (L .calls) l
         → fieldAt (L .target .rows) (callVar (L .calls) k) 1 ≡ fieldAt (L .target .rows) (callVar (L .calls) l) 1 → args k ≡ args l
@@ -192,7 +197,8 @@ module _ (L : Lowering) (F : Formed L) (M : Matched L) (A : ℕ → ℕ) (fits :
         root : (q : ℕ) × (q < length (L .troots)) × CallCong L k l (rootOf L q) → A (callVar (L .calls) k) ≡ A (callVar (L .calls) l)
         root (q, hq, c) =
             sym (call-number k hk)
-            ∙ ap nat (tells-out (cong-tells L F A fits _ _ _ _ _ (rootOf L q) c) (eqb-true _ _ (true-roots q hq)) (tabulate-at _ _ (argCount (L .calls) k) same))
+            ∙ ap nat (tells-out (cong-tells L F A fits _ _ _ _ _ (rootOf L q) c) (eqb-true _ _ (true-roots q hq))
+            (tabulate-at _ _ (argCount (L .calls) k) same))
             ∙ call-number l hl
 
     leaf-read : LeafRead L F M I A fits
@@ -250,7 +256,8 @@ module _ (L : Lowering) (F : Formed L) (M : Matched L) (A : ℕ → ℕ) (fits :
       on-var i w h e true q = let l = ltb-true _ _ q in fits (m L i) w l (of-var L M i w (h, l) e)
       on-var i w h e false q = kinds .variables-fit i w h e
 
-      on-cell : (a x : ℕ) (b : Bool) → ltb (readAt L A a x) (readCount (L .reads)) ≡ b → cond b (A (readVar (L .reads) (readAt L A a x))) (J .array a x) < 2 ^ arraySorts L .cell a
+      on-cell : (a x : ℕ) (b : Bool) → ltb (readAt L A a x) (readCount (L .reads)) ≡ b
+          → cond b (A (readVar (L .reads) (readAt L A a x))) (J .array a x) < 2 ^ arraySorts L .cell a
       on-cell a x true q =
           let l = ltb-true _ _ q in
           let e = M .of-read (readAt L A a x) l in

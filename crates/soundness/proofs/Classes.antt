@@ -22,7 +22,8 @@ use Rattle.rows.specs.Row.{MAX, rowAt}
 use Rattle.rows.specs.Tags.{either}
 use Rattle.lowering.specs.declared.Walk.{Walk}
 use Rattle.lowering.specs.declared.Walk.the-variants.{RanOut, Met, Lost}
-use Rattle.lowering.specs.Matching.{Noted, noted, mappedArg, endGood, callMatches, varMatches, matched, nodeAnswer, rowAnswer, endClasses, nodeClasses, rowClasses}
+use Rattle.lowering.specs.Matching.{Noted, noted, mappedArg, endGood, callMatches, varMatches, matched, nodeAnswer, rowAnswer, endClasses}
+use Rattle.lowering.specs.Matching.{nodeClasses, rowClasses}
 use Rattle.lowering.specs.Matching.{Kind, var, const, core, select, call, unknown, kindOf, kindAnswer, kindClasses}
 use Rattle.lowering.specs.Lowering.{Lowering, bindingOf, targetRows}
 use Rattle.lowering.specs.Check.{classesOfTables, classes, offsets}
@@ -141,7 +142,8 @@ module _ (L : Lowering) where
   endOf i a j o = endGood (L .map) (L .reads) (L .target .rows) (notedAt i) a j o
 
   pub ran-out : (i a j r : ℕ) → endOf i a j (RanOut r) ≡ true
-      → (r < targetRows L) × (kind (getD (classes L i) r 0) ≡ 2) × (getD (L .reads) (getD (offsets L) r 0 + 1) 0 ≡ a) × (getD (L .reads) (getD (offsets L) r 0 + 2) 0 ≡ m L j)
+      → (r < targetRows L) × (kind (getD (classes L i) r 0) ≡ 2) × (getD (L .reads) (getD (offsets L) r 0 + 1) 0 ≡ a)
+      × (getD (L .reads) (getD (offsets L) r 0 + 2) 0 ≡ m L j)
   unfolding endGood kind
   ran-out i a j r e =
       let (u, (c, (_, (x, (y, _))))) = all-true _ e in
@@ -172,11 +174,13 @@ module _ (L : Lowering) {N : ℕ} (E : Reached L N) where
       → Turns L r (getD (classes L i) r 0) (getD (endClasses (classes L i) o) r 0)
   turn-end i a j x (RanOut p) y e r =
       let (u, c, _, _) = ran-out L i a j p e in
-      set-holds (Turns L r (getD (classes L i) r 0)) (classes L i) p 4 r (rw (classes-length i) u) (stays refl) (λ q. to-read (rw q at c) refl (i, (x, y ∙ q)))
+      set-holds (Turns L r (getD (classes L i) r 0)) (classes L i) p 4 r (rw (classes-length i) u) (stays refl)
+      (λ q. to-read (rw q at c) refl (i, (x, y ∙ q)))
   turn-end i a j x (Met p v) y e r = stays refl
   turn-end i a j x Lost y e r = stays refl
 
-  turn-kinds : (i : ℕ) → Mapped L i → (kind : Kind) → kindOf (S L i) ≡ kind → isAccepted (kindAnswer (bindingOf L) (notedAt L i) i (m L i) kind) ≡ true
+  turn-kinds : (i : ℕ) → Mapped L i → (kind : Kind) → kindOf (S L i) ≡ kind
+      → isAccepted (kindAnswer (bindingOf L) (notedAt L i) i (m L i) kind) ≡ true
       → (r : ℕ) → Turns L r (getD (classes L i) r 0) (getD (kindClasses (bindingOf L) (classes L i) (m L i) kind) r 0)
   turn-kinds i (h, u) (var w) n e r =
       set-holds (Turns L r (getD (classes L i) r 0)) (classes L i) (m L i) 1 r (rw (classes-length i) u) (stays refl)

@@ -1,5 +1,5 @@
--- A second edition whose table lists 32 and 8 for each array that the source's Selects and the read entries name is answered as the first edition: the
--- answer and the lists, by either check (02, 2.9). Assumes nothing.
+-- A second edition whose table lists 32 and 8 for each array that the source's Selects and the read entries name is answered as the first edition:
+-- the answer and the lists, by either check (02, 2.9). Assumes nothing.
 use Prim.Native.Nat.{ℕ, zero, suc, _<_, _≤_}
 use mathlib.Core.Path.{_≡_, refl, ap, _∙_}
 use mathlib.Core.Bool.{Bool, cond}
@@ -66,7 +66,8 @@ module _ (σ : Sorts) where
     ill-same : illRow σ Source nbits side g ≡ illRow plain Source nbits side g
     ill-same =
         first-same _ _ (rowCount Source g)
-        (λ i h. ap (λ (w : ℕ). eqb w 0) (row-same i h (widthsTo σ Source nbits side g i) ∙ ap (rowWidth plain Source nbits side g i) (to-same i (omega arith))))
+        (λ i h. ap (λ (w : ℕ). eqb w 0) (row-same i h (widthsTo σ Source nbits side g i)
+        ∙ ap (rowWidth plain Source nbits side g i) (to-same i (omega arith))))
 
   bad-same : (reads target ws cls : List ℕ) → ((q : ℕ) → q < readCount reads → Plain σ (readArray reads q))
       → badRead σ reads target ws cls ≡ badRead plain reads target ws cls

@@ -129,7 +129,8 @@ module _ (L : Lowering) where
 
   abbrev pub CallCong : ℕ → ℕ → ℕ → Type 0
   CallCong k l r =
-      congruent (L .target .rows) (callArg (L .calls) (L .cargs) k) (callArg (L .calls) (L .cargs) l) (argCount (L .calls) k) (callVar (L .calls) k) (callVar (L .calls) l) r ≡ true
+      congruent (L .target .rows) (callArg (L .calls) (L .cargs) k) (callArg (L .calls) (L .cargs) l) (argCount (L .calls) k) (callVar (L .calls) k)
+      (callVar (L .calls) l) r ≡ true
 
   -- a root that is the congruence root of some two entries of one array, of one function
   abbrev pub ReadPair : ℕ → Type 0
@@ -151,7 +152,8 @@ module _ (L : Lowering) where
     pub of-root : (q : ℕ) → q < length (L .eroots) → Mapped (getD (L .eroots) q 0) × (q < length (L .troots)) × (rootOf q ≡ m (getD (L .eroots) q 0))
     -- two unequal constant indices need no root
     pub cong-read : (k l : ℕ) → k < l → l < readCount (L .reads) → readArray (L .reads) k ≡ readArray (L .reads) l
-        → (unequalConst (L .target .bits) (rowAt Target (L .target .rows) (readIndex (L .reads) k)) (rowAt Target (L .target .rows) (readIndex (L .reads) l)) ≡ true)
+        → (unequalConst (L .target .bits) (rowAt Target (L .target .rows) (readIndex (L .reads) k))
+        (rowAt Target (L .target .rows) (readIndex (L .reads) l)) ≡ true)
         ⊎ ((q : ℕ) × (q < length (L .troots)) × ReadCong k l (rootOf q))
     pub cong-call : (k l : ℕ) → k < l → l < callCount (L .calls) → oneFunction k l ≡ true
         → (q : ℕ) × (q < length (L .troots)) × CallCong k l (rootOf q)

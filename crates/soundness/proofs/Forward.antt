@@ -24,7 +24,8 @@ use Rattle.lowering.specs.Images.{mapAt, fieldAt}
 use Rattle.lowering.specs.Tables.{readCount, readVar, readArray, readIndex, callCount, callVar, callFunction, argCount, callArg, sameFunction}
 use Rattle.lowering.specs.Lowering.{arraySorts, Lowering, sourceRows, targetRows}
 use Rattle.soundness.specs.Transfer.{origin, isOrigin, varOrigin, readOf, callOf, originValue, readCell, callResult, assignment}
-use Rattle.soundness.proofs.Facts.{S, T, m, Mapped, oneFunction, Formed, Owner, by-var, by-read, by-call, Owns, ReadPair, CallPair, Matched, rootOf}
+use Rattle.soundness.proofs.Facts.{S, T, m, Mapped, oneFunction, Formed, Owner, by-var, by-read, by-call, Owns, ReadPair, CallPair, Matched}
+use Rattle.soundness.proofs.Facts.{rootOf}
 use Rattle.soundness.proofs.Images.{var-row}
 use Rattle.soundness.proofs.Tells.{tv, row-value, cong-tells, cong-width, tells-in}
 use Rattle.soundness.proofs.Agree.{sv, Agree, LeafRead, LeafCall, agree-rows}
@@ -60,7 +61,9 @@ module _ (L : Lowering) (F : Formed L) (M : Matched L) (I : Interpretation) (giv
   at-read q h = rw (e, lt-ltb _ _ h)
     where
       e : readOf L (readVar (L .reads) q) ≡ q
-      e = first-only (λ p. eqb (readVar (L .reads) p) (readVar (L .reads) q)) (readCount (L .reads)) q h (eq-eqb (readVar (L .reads) q) (readVar (L .reads) q) refl)
+      e =
+          first-only (λ p. eqb (readVar (L .reads) p) (readVar (L .reads) q)) (readCount (L .reads)) q h
+          (eq-eqb (readVar (L .reads) q) (readVar (L .reads) q) refl)
           (λ p l t. ap number (M .one-owner (by-read p) (by-read q) (readVar (L .reads) q) (l, eqb-true _ _ t) (h, refl)))
 
   -- no entry is found where none owns the row
@@ -80,7 +83,9 @@ module _ (L : Lowering) (F : Formed L) (M : Matched L) (I : Interpretation) (giv
       other p x = let z : kind (by-read p) ≡ 2 = ap kind (M .one-owner (by-read p) (by-call q) (callVar (L .calls) q) x (h, refl)) in omega arith
 
       e : callOf L (callVar (L .calls) q) ≡ q
-      e = first-only (λ p. eqb (callVar (L .calls) p) (callVar (L .calls) q)) (callCount (L .calls)) q h (eq-eqb (callVar (L .calls) q) (callVar (L .calls) q) refl)
+      e =
+          first-only (λ p. eqb (callVar (L .calls) p) (callVar (L .calls) q)) (callCount (L .calls)) q h
+          (eq-eqb (callVar (L .calls) q) (callVar (L .calls) q) refl)
           (λ p l t. ap number (M .one-owner (by-call p) (by-call q) (callVar (L .calls) q) (l, eqb-true _ _ t) (h, refl)))
 
   -- an origin of r is a variable with image r
@@ -129,16 +134,19 @@ module _ (L : Lowering) (F : Formed L) (M : Matched L) (I : Interpretation) (giv
 
       go : (b : Bool) → ltb (readOf L r) (readCount (L .reads)) ≡ b → (c : Bool) → ltb (callOf L r) (callCount (L .calls)) ≡ c
           → (d : Bool) → ltb (varOrigin L r) (sourceRows L) ≡ d
-          → cond b (readCell L I (readOf L r)) (cond c (callResult L I (fieldAt (L .target .rows) r 1) (callOf L r)) (cond d (I .variable (varOrigin L r)) (given r))) < 2 ^ w
+          → cond b (readCell L I (readOf L r)) (cond c (callResult L I (fieldAt (L .target .rows) r 1) (callOf L r))
+          (cond d (I .variable (varOrigin L r)) (given r))) < 2 ^ w
       go true eb c ec d ed =
           let l = ltb-true _ _ eb in
           let e : readVar (L .reads) (readOf L r) ≡ r = eqb-true _ _ (first-hit (λ q. eqb (readVar (L .reads) q) r) _ l) in
-          subst (λ (z : ℕ). readCell L I (readOf L r) < 2 ^ z) (of-width _ (rw e at (M .of-read (readOf L r) l .is-var))) (kinds .cells-fit (readArray (L .reads) (readOf L r)) _)
+          subst (λ (z : ℕ). readCell L I (readOf L r) < 2 ^ z) (of-width _ (rw e at (M .of-read (readOf L r) l .is-var)))
+          (kinds .cells-fit (readArray (L .reads) (readOf L r)) _)
       go false eb true ec d ed = rw (node-var (rowAt Target (L .target .rows) r) w v .1) (kinds .results-fit _ w _)
       go false eb false ec true ed =
           let l = ltb-true _ _ ed in
           let (e, k) = is-origin r (varOrigin L r) (first-hit (isOrigin L r) _ l) in
-          let t : T L (m L (varOrigin L r)) ≡ Var (getD (rowAt Source (L .source .rows) (varOrigin L r)) 1 0) = of-var L M (varOrigin L r) _ (l, rw k h) e in
+          let t : T L (m L (varOrigin L r)) ≡ Var (getD (rowAt Source (L .source .rows) (varOrigin L r)) 1 0) =
+          of-var L M (varOrigin L r) _ (l, rw k h) e in
           subst (λ (z : ℕ). I .variable (varOrigin L r) < 2 ^ z) (of-width _ (rw k at t)) (kinds .variables-fit (varOrigin L r) _ l e)
       go false eb false ec false ed = fits r w h v
 
@@ -154,7 +162,9 @@ module _ (L : Lowering) (F : Formed L) (M : Matched L) (I : Interpretation) (giv
     leaf-read : LeafRead L F M I A fits
     unfolding readCell
     leaf-read q r a x z k ih =
-        let v : nat (sv L F M I A fits x) ≡ nat (originValue L I (readIndex (L .reads) q)) = ap nat (ih x (omega arith) k ∙ ap (tv L F A fits) (sym (z .index-is)) ∙ sym (origin-value x (readIndex (L .reads) q) k (z .index-is) ih)) in
+        let v : nat (sv L F M I A fits x) ≡ nat (originValue L I (readIndex (L .reads) q)) =
+        ap nat (ih x (omega arith) k ∙ ap (tv L F A fits) (sym (z .index-is))
+        ∙ sym (origin-value x (readIndex (L .reads) q) k (z .index-is) ih)) in
         rw (← z .variable-is, ← z .array-is, v) (sym (at-read q (z .inside)))
 
     leaf-call : LeafCall L F M I A fits
@@ -171,24 +181,29 @@ module _ (L : Lowering) (F : Formed L) (M : Matched L) (I : Interpretation) (giv
             let t = M .of-call q (z .inside) in
             let (_, y, ey) = t .args-image l (rw (z .count-is) u) in
             let mx : Mapped L (xs l) = (omega arith, rw (← e, ← ey) (y .1)) in
-            ih (xs l) j mx ∙ ap (tv L F A fits) (sym e) ∙ sym (origin-value (xs l) (callArg (L .calls) (L .cargs) q l) mx e (λ n b. ih n (omega arith)))
+            ih (xs l) j mx ∙ ap (tv L F A fits) (sym e) ∙ sym (origin-value (xs l) (callArg (L .calls) (L .cargs) q l) mx e
+            (λ n b. ih n (omega arith)))
 
     pub forward-agree : (i : ℕ) → Agree L F M I A fits i
     forward-agree = agree-rows L F M I A fits (λ i w k e. sym (at-var i w k e)) leaf-read leaf-call
 
     -- an entry's variable: its array at its index's value, its function at its arguments' values
     read-value : (q : ℕ) → q < readCount (L .reads)
-        → tv L F A fits (readVar (L .reads) q) ≡ val (arraySorts L .cell (readArray (L .reads) q)) (I .array (readArray (L .reads) q) (nat (tv L F A fits (readIndex (L .reads) q))))
+        → tv L F A fits (readVar (L .reads) q) ≡ val (arraySorts L .cell (readArray (L .reads) q))
+        (I .array (readArray (L .reads) q) (nat (tv L F A fits (readIndex (L .reads) q))))
     unfolding readCell
     read-value q h =
         let e = M .of-read q h in
         let (x, k, ex) = e .index-image in
         row-value L F A fits (readVar (L .reads) q) _ (e .inside) (e .is-var)
-        ∙ ap (val (arraySorts L .cell (readArray (L .reads) q))) (at-read q h ∙ ap (λ (v : Val). I .array (readArray (L .reads) q) (nat v)) (origin-value x (readIndex (L .reads) q) k (sym ex) (λ j l. forward-agree j)))
+        ∙ ap (val (arraySorts L .cell (readArray (L .reads) q)))
+        (at-read q h ∙ ap (λ (v : Val). I .array (readArray (L .reads) q) (nat v))
+        (origin-value x (readIndex (L .reads) q) k (sym ex) (λ j l. forward-agree j)))
 
     call-value : (q : ℕ) (h : q < callCount (L .calls))
         → tv L F A fits (callVar (L .calls) q)
-        ≡ val (M .of-call q h .width) (I .function (callFunction (L .calls) q) (M .of-call q h .width) (tabulate (λ l. tv L F A fits (callArg (L .calls) (L .cargs) q l)) (argCount (L .calls) q)))
+        ≡ val (M .of-call q h .width) (I .function (callFunction (L .calls) q) (M .of-call q h .width)
+        (tabulate (λ l. tv L F A fits (callArg (L .calls) (L .cargs) q l)) (argCount (L .calls) q)))
     unfolding callResult
     call-value q h =
         let e = M .of-call q h in
@@ -196,10 +211,12 @@ module _ (L : Lowering) (F : Formed L) (M : Matched L) (I : Interpretation) (giv
         ∙ ap (val (e .width))
         (at-call q (e .width) h (e .is-var)
         ∙ ap (I .function (callFunction (L .calls) q) (e .width))
-        (tabulate-same _ _ (argCount (L .calls) q) (λ l u. let (x, k, ex) = e .args-image l u in origin-value x (callArg (L .calls) (L .cargs) q l) k (sym ex) (λ j b. forward-agree j))))
+        (tabulate-same _ _ (argCount (L .calls) q) (λ l u. let (x, k, ex) = e .args-image l u in origin-value x (callArg (L .calls) (L .cargs) q l) k
+        (sym ex) (λ j b. forward-agree j))))
 
     -- the target's roots: images of true roots, and congruence roots
-    pub forward-roots : RootsTrue (sourceValue (arraySorts L) (L .source .rows) (L .source .bits) (L .source .side) I) (L .eroots) → RootsTrue (tv L F A fits) (L .troots)
+    pub forward-roots : RootsTrue (sourceValue (arraySorts L) (L .source .rows) (L .source .bits) (L .source .side) I) (L .eroots)
+        → RootsTrue (tv L F A fits) (L .troots)
     forward-roots true-roots q h = eq-eqb _ _ (⊎-elim image (⊎-elim reads calls) (M .only q h))
       where
         image : q < length (L .eroots) → nat (tv L F A fits (rootOf L q)) ≡ 1
@@ -224,7 +241,8 @@ module _ (L : Lowering) (F : Formed L) (M : Matched L) (I : Interpretation) (giv
             let args : ℕ → List Val = λ z. tabulate (λ x. tv L F A fits (callArg (L .calls) (L .cargs) l x)) z in
             tells-in (cong-tells L F A fits _ _ _ _ _ (rootOf L q) c)
             (λ s. vk
-            ∙ ap (λ (vs : List Val). val (M .of-call k hk .width) (I .function (callFunction (L .calls) k) (M .of-call k hk .width) vs)) (tabulate-same _ _ (argCount (L .calls) k) s ∙ ap args n)
+            ∙ ap (λ (vs : List Val). val (M .of-call k hk .width) (I .function (callFunction (L .calls) k) (M .of-call k hk .width) vs))
+            (tabulate-same _ _ (argCount (L .calls) k) s ∙ ap args n)
             ∙ ap (λ (z : ℕ). val z (I .function (callFunction (L .calls) k) z (args (argCount (L .calls) l)))) w
             ∙ ap (λ (z : ℕ). val (M .of-call l hl .width) (I .function z (M .of-call l hl .width) (args (argCount (L .calls) l)))) f
             ∙ sym vl)

@@ -34,18 +34,28 @@ use Rattle.soundness.proofs.Classes.{test-of, answerAt, endOf, var-pass
 
 module _ (L : Lowering) (P : Passed L) (F : Formed L) (small : targetRows L ≤ MAX) where
   -- a core row: the equations of its mapped node hold by themselves
-  core-found : (i : ℕ) (node : Node) → S L i ≡ node → nodeMatches (L .map) (L .target .rows) node (m L i) ≡ true → (TagGood node → eqb (tagOf node) tVar ≡ false)
+  core-found : (i : ℕ) (node : Node) → S L i ≡ node → nodeMatches (L .map) (L .target .rows) node (m L i) ≡ true
+      → (TagGood node → eqb (tagOf node) tVar ≡ false)
       → tagOf (mapNode (L .map) node) ≡ tagOf node → parameters (L .target .bits) (mapNode (L .map) node) ≡ parameters (L .source .bits) node
       → operands (mapNode (L .map) node) ≡ map (m L) (operands node) → SameCore L node (T L (m L i))
   unfolding nodeMatches
   core-found i node n e v t p o =
       let g : TagGood node = subst TagGood n (node-good (rowAt Source (L .source .rows) i)) in
-      let q : T L (m L i) ≡ mapNode (L .map) node = row-is (rowAt Target (L .target .rows) (m L i)) (mapNode (L .map) node) (map-good (L .map) node g) e in
-      record { no-var = v g; same-tag = ap tagOf q ∙ t; same-parameters = ap (parameters (L .target .bits)) q ∙ p; mapped-operands = ap operands q ∙ o }
+      let q : T L (m L i) ≡ mapNode (L .map) node =
+      row-is (rowAt Target (L .target .rows) (m L i)) (mapNode (L .map) node) (map-good (L .map) node g) e in
+      record {
+        no-var = v g;
+        same-tag = ap tagOf q ∙ t;
+        same-parameters = ap (parameters (L .target .bits)) q ∙ p;
+        mapped-operands = ap operands q
+            ∙ o;
+      }
 
   const-found : (i s w : ℕ) → S L i ≡ Const s w → isAccepted (answerAt L i (Const s w)) ≡ true → SameCore L (Const s w) (T L (m L i))
   const-found i s w n e =
-      let (_, y, z) = same-const (L .source .bits) (L .target .bits) (rowAt Source (L .source .rows) i) (rowAt Target (L .target .rows) (m L i)) (test-of _ (ConstMismatch i) refl e) in
+      let (_, y, z) =
+      same-const (L .source .bits) (L .target .bits) (rowAt Source (L .source .rows) i) (rowAt Target (L .target .rows) (m L i))
+      (test-of _ (ConstMismatch i) refl e) in
       record { no-var = refl; same-tag = ap tagOf y; same-parameters = sym z ∙ ap (parameters (L .source .bits)) n; mapped-operands = ap operands y }
 
   -- a walk that ran out is at the variable of the entry of that array and index
@@ -55,10 +65,19 @@ module _ (L : Lowering) (P : Passed L) (F : Formed L) (small : targetRows L ≤ 
       let (u, c, x, y) = ran-out L i a j r e in
       go x y (read-at L (P .reached) r i (omega arith) u c)
     where
-      go : getD (L .reads) (getD (offsets L) r 0 + 1) 0 ≡ a → getD (L .reads) (getD (offsets L) r 0 + 2) 0 ≡ m L j → ReadAt L r → Ends L a j (RanOut r)
+      go : getD (L .reads) (getD (offsets L) r 0 + 1) 0 ≡ a → getD (L .reads) (getD (offsets L) r 0 + 2) 0 ≡ m L j → ReadAt L r
+          → Ends L a j (RanOut r)
       go x y (q, l, v) =
-          let o : q * 3 ≡ getD (offsets L) r 0 = sym (offset-of-read L (P .reached) q l) ∙ ap (λ (z : ℕ). getD (offsets L) z 0) v in
-          (q, record { inside = l; variable-is = v; array-is = ap (λ (z : ℕ). getD (L .reads) (z + 1) 0) o ∙ x; index-is = ap (λ (z : ℕ). getD (L .reads) (z + 2) 0) o ∙ y })
+          let o : q * 3 ≡ getD (offsets L) r 0 = sym (offset-of-read L (P .reached) q l) ∙ ap (λ (z : ℕ). getD (offsets L) z 0) v in (
+            q,
+            record {
+              inside = l;
+              variable-is = v;
+              array-is = ap (λ (z : ℕ). getD (L .reads) (z + 1) 0) o
+                  ∙ x;
+              index-is = ap (λ (z : ℕ). getD (L .reads) (z + 2) 0) o ∙ y;
+            },
+          )
   end-found i a j h (Met r v) e = eqb-true _ _ e
   end-found i a j h Lost e = no-way (sym e)
 

@@ -64,7 +64,8 @@ abbrev found : Interpretation
 found = interpretation two-functions numbers zero-interpretation
 
 source-true : SourceTrue two-functions found
-source-true = backward-along false two-functions room room room room (omega arith) accepted numbers zero-interpretation (zero-fits two-functions) target-true .0
+source-true =
+    backward-along false two-functions room room room room (omega arith) accepted numbers zero-interpretation (zero-fits two-functions) target-true .0
 
 pub source-satisfiable : SourceIsSatisfiable two-functions
 source-satisfiable = (found, source-true .0, source-true .1)

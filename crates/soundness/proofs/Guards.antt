@@ -1,5 +1,5 @@
--- The guards in the rules of Select and Call never decide: once the tables have passed, an entry that a class leads to lies in its table, and a call's
--- arguments in theirs. A refused row may set a class that no entry has, so this is said of the rows that Check comes to. Assumes nothing.
+-- The guards in the rules of Select and Call never decide: once the tables have passed, an entry that a class leads to lies in its table, and a
+-- call's arguments in theirs. A refused row may set a class that no entry has, so this is said of the rows that Check comes to. Assumes nothing.
 use Prim.Native.Nat.{ℕ, _+_, _*_, _<_, _≤_}
 use mathlib.Core.Path.{_≡_, refl, sym, ap, _∙_}
 use mathlib.Core.Bool.{Bool, true, false, not}
@@ -95,7 +95,8 @@ module _ (L : Lowering) {n : ℕ} (E : Reached L n) where
         ≡ callBare (L .calls) (L .cargs) (L .target .rows) (notedAt L n) f w k xs r
     unfolding callMatches callBare
     call-same u =
-        skip (image ∷ class ∷ leb (o + 4) (length (L .calls)) ∷ function ∷ count ∷ []) (leb (getD (L .calls) (o + 2) 0 + k) (length (L .cargs))) (args ∷ [])
+        skip (image ∷ class ∷ leb (o + 4) (length (L .calls)) ∷ function ∷ count ∷ []) (leb (getD (L .calls) (o + 2) 0 + k) (length (L .cargs)))
+        (args ∷ [])
         (λ e. let (_, (c, (_, (_, (y, _))))) = all-true _ e in le-leb _ _ (rw (eqb-true (getD (L .calls) (o + 3) 0) k y) at (call-inside r u c .1)))
         ∙ skip (image ∷ class ∷ []) (leb (o + 4) (length (L .calls))) (function ∷ count ∷ args ∷ [])
         (λ e. let (_, (c, _)) = all-true _ e in le-leb _ _ (call-inside r u c .0))

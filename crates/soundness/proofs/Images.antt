@@ -39,26 +39,30 @@ var-row r e = rw e
 
 -- two constants of one width and bits, each in its own list of bits
 pub same-const : (b c r q : List ℕ) → sameConst b r c q ≡ true
-    → (nodeOf r ≡ Const (getD r 1 0) (getD r 2 0)) × (nodeOf q ≡ Const (getD q 1 0) (getD q 2 0)) × (parameters b (nodeOf r) ≡ parameters c (nodeOf q))
+    → (nodeOf r ≡ Const (getD r 1 0) (getD r 2 0)) × (nodeOf q ≡ Const (getD q 1 0) (getD q 2 0))
+    × (parameters b (nodeOf r) ≡ parameters c (nodeOf q))
 unfolding sameConst
 same-const b c r q e =
     let (k, (w, (s, _))) = all-true _ e in
     let (x, y) = both-const r q k in
     let v : getD r 2 0 ≡ getD q 2 0 = eqb-true _ _ w in
-    let n : constNumber b (getD r 1 0) (getD r 2 0) ≡ constNumber c (getD q 1 0) (getD r 2 0) = ofBits-cong (getD r 2 0) _ _ (agree-at _ _ (getD r 2 0) s) in
+    let n : constNumber b (getD r 1 0) (getD r 2 0) ≡ constNumber c (getD q 1 0) (getD r 2 0) =
+    ofBits-cong (getD r 2 0) _ _ (agree-at _ _ (getD r 2 0) s) in
     (const-row r x, const-row q y, rw (const-row r x, const-row q y, n, v))
 
 -- rows of a target, by their number
 module _ (target : List ℕ) where
   -- one level of a walk: the rest is the row's third field
   pub ite-row : (a b v r : ℕ) → isLevel target a b v r ≡ true
-      → (r < rowCount Target target) × (nodeOf (rowAt Target target r) ≡ Ite (fieldAt target r 1) v (fieldAt target r 3)) × (isEq target a b (fieldAt target r 1) ≡ true)
+      → (r < rowCount Target target) × (nodeOf (rowAt Target target r) ≡ Ite (fieldAt target r 1) v (fieldAt target r 3))
+      × (isEq target a b (fieldAt target r 1) ≡ true)
   unfolding isLevel
   ite-row a b v r e =
       let (x, (y, (z, (q, _)))) = all-true _ e in
       (ltb-true _ _ x, rw (eqb-true (tagAt target r) tIte y, eqb-true (fieldAt target r 2) v z), q)
 
-  pub and-row : (r : ℕ) → eqb (tagAt target r) tBoolAnd ≡ true → nodeOf (rowAt Target target r) ≡ Bin tBoolAnd (fieldAt target r 1) (fieldAt target r 2)
+  pub and-row : (r : ℕ) → eqb (tagAt target r) tBoolAnd ≡ true
+      → nodeOf (rowAt Target target r) ≡ Bin tBoolAnd (fieldAt target r 1) (fieldAt target r 2)
   and-row r e = rw (eqb-true (tagAt target r) tBoolAnd e)
 
   pub or-row : (r : ℕ) → eqb (tagAt target r) tBoolOr ≡ true → nodeOf (rowAt Target target r) ≡ Bin tBoolOr (fieldAt target r 1) (fieldAt target r 2)

@@ -1,5 +1,5 @@
--- In what is accepted every array that a Select or a read entry names is listed: its two widths lie between 1 and the ceiling. So "an array not listed
--- makes its Select ill-formed", and "a read entry that names one is refused" (02, 2.9). Assumes nothing.
+-- In what is accepted every array that a Select or a read entry names is listed: its two widths lie between 1 and the ceiling. So "an array not
+-- listed makes its Select ill-formed", and "a read entry that names one is refused" (02, 2.9). Assumes nothing.
 use Prim.Native.Nat.{ℕ, _<_}
 use mathlib.Core.Path.{_≡_}
 use mathlib.Core.List.{[]}
@@ -32,6 +32,7 @@ module _ (L : Lowering) (P : Passed L) where
   read-listed q h =
       let (inside, is-var, _, _) = read-facts L (P .reached) q h in
       let (l, w) = read-index L (P .reached) q h in
-      let row : RowFormed plain (length (L .target .bits)) [] (λ x. getD (widthsOfTarget L) x 0) (readVar (L .reads) q) (Var (arraySorts L .cell (readArray (L .reads) q))) =
+      let row : RowFormed plain (length (L .target .bits)) [] (λ x. getD (widthsOfTarget L) x 0) (readVar (L .reads) q)
+      (Var (arraySorts L .cell (readArray (L .reads) q))) =
       rw is-var at (formed L P .target-formed (readVar (L .reads) q) inside) in
       (rw w at (formed L P .target-formed _ l .is-width), rw (row .follows) at (row .is-width))

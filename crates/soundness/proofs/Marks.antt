@@ -88,4 +88,5 @@ module _ (place : ℕ → ℕ) (c N : ℕ) (l : List ℕ) (above : 0 < c) (insid
     pub table-from : (r : ℕ) → (getD (marks place number e N) r 0 ≡ getD e r 0) ⊎ ((k : ℕ) × (k < N) × (place k ≡ r))
     unfolding trace
     table-from r =
-        marks-hold place number e (λ d. (d ≡ getD e r 0) ⊎ ((k : ℕ) × (k < N) × (place k ≡ r))) r 0 N (omega arith) in-size (inl refl) (λ j u v q. inr (j, v, q))
+        marks-hold place number e (λ d. (d ≡ getD e r 0) ⊎ ((k : ℕ) × (k < N) × (place k ≡ r))) r 0 N (omega arith) in-size (inl refl)
+        (λ j u v q. inr (j, v, q))

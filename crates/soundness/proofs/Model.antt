@@ -29,20 +29,22 @@ use Rattle.soundness.specs.Transfer.{readHit, interpretation}
 use Rattle.soundness.proofs.Accepted.{zero-interpretation, zero-fits}
 use Rattle.soundness.proofs.Theorem.{truths-agree, backward-along}
 
--- source Var(32) twice, Select(7,0), Select(7,1), Ne(2,3), root 4; target Var(32) twice, Var(8) twice, Ne(2,3), Eq(0,1), Not(5), Eq(2,3), BoolOr(6,7),
--- roots 4 and, for the two reads, 8
+-- source Var(32) twice, Select(7,0), Select(7,1), Ne(2,3), root 4; target Var(32) twice, Var(8) twice, Ne(2,3), Eq(0,1), Not(5), Eq(2,3),
+-- BoolOr(6,7), roots 4 and, for the two reads, 8
 abbrev pub two-reads : Lowering
 two-reads =
     lowering (0 ∷ 32 ∷ 0 ∷ 0 ∷ 0 ∷ 0 ∷ 32 ∷ 0 ∷ 0 ∷ 0 ∷ 37 ∷ 7 ∷ 0 ∷ 0 ∷ 0 ∷ 37 ∷ 7 ∷ 1 ∷ 0 ∷ 0 ∷ 20 ∷ 2 ∷ 3 ∷ 0 ∷ 0 ∷ []) [] [] (4 ∷ [])
     (0 ∷ 1 ∷ 2 ∷ 3 ∷ 4 ∷ []) (2 ∷ 7 ∷ 0 ∷ 3 ∷ 7 ∷ 1 ∷ []) [] []
-    (0 ∷ 32 ∷ 0 ∷ 0 ∷ 0 ∷ 32 ∷ 0 ∷ 0 ∷ 0 ∷ 8 ∷ 0 ∷ 0 ∷ 0 ∷ 8 ∷ 0 ∷ 0 ∷ 20 ∷ 2 ∷ 3 ∷ 0 ∷ 19 ∷ 0 ∷ 1 ∷ 0 ∷ 29 ∷ 5 ∷ 0 ∷ 0 ∷ 19 ∷ 2 ∷ 3 ∷ 0 ∷ 31 ∷ 6 ∷ 7 ∷ 0 ∷ []) []
+    (0 ∷ 32 ∷ 0 ∷ 0 ∷ 0 ∷ 32 ∷ 0 ∷ 0 ∷ 0 ∷ 8 ∷ 0 ∷ 0 ∷ 0 ∷ 8 ∷ 0 ∷ 0 ∷ 20 ∷ 2 ∷ 3 ∷ 0 ∷ 19 ∷ 0 ∷ 1 ∷ 0 ∷ 29 ∷ 5 ∷ 0 ∷ 0 ∷ 19 ∷ 2 ∷ 3 ∷ 0 ∷ 31 ∷ 6 ∷ 7
+    ∷ 0 ∷ []) []
     (4 ∷ 8 ∷ [])
 
 abbrev room : List ℕ
 room = 0 ∷ 0 ∷ 0 ∷ 0 ∷ 0 ∷ 0 ∷ 0 ∷ 0 ∷ 0 ∷ []
 
 pub accepted : Accepts two-reads room room room room
-unfolding firstRefusal build first all agree trace rowIs bothConst sameConst unequalConst sameRead sameFunction sameCall readGood callGood isEq isLevel walk endGood callMatches varMatches nodeMatches rowAnswer rowClasses leads pairsWith pairs readsNeed allEqual congruent rootAt
+unfolding firstRefusal build first all agree trace rowIs bothConst sameConst unequalConst sameRead sameFunction sameCall readGood callGood isEq
+    isLevel walk endGood callMatches varMatches nodeMatches rowAnswer rowClasses leads pairsWith pairs readsNeed allEqual congruent rootAt
 accepted = refl
 
 -- the second index and the second byte are 1, all else 0
@@ -86,21 +88,24 @@ abbrev pub found : Interpretation
 found = interpretation two-reads numbers zero-interpretation
 
 pub source-true : SourceTrue two-reads found
-source-true = backward-along false two-reads room room room room (omega arith) accepted numbers zero-interpretation (zero-fits two-reads) target-true .0
+source-true =
+    backward-along false two-reads room room room room (omega arith) accepted numbers zero-interpretation (zero-fits two-reads) target-true .0
 
 pub source-satisfiable : SourceIsSatisfiable two-reads
 source-satisfiable = (found, source-true .0, source-true .1)
 
 -- the strict check accepts the lowering too, and the strict truth holds of the same numbers on both sides (02, 2.6)
 strictly : StrictlyAccepts two-reads room room room room
-unfolding firstRefusal build first all agree trace rowIs bothConst sameConst unequalConst sameRead sameFunction sameCall readGood callGood isEq isLevel walk endGood callMatches varMatches nodeMatches rowAnswer rowClasses leads pairsWith pairs readsNeed allEqual congruent rootAt
+unfolding firstRefusal build first all agree trace rowIs bothConst sameConst unequalConst sameRead sameFunction sameCall readGood callGood isEq
+    isLevel walk endGood callMatches varMatches nodeMatches rowAnswer rowClasses leads pairsWith pairs readsNeed allEqual congruent rootAt
 strictly = refl
 
 strict-target : TargetTrueBy two-reads isTrueBit numbers
 strict-target = truths-agree two-reads room room room room strictly .1 numbers .1 target-true
 
 strict-source : SourceTrueBy two-reads isTrueBit found
-strict-source = backward-along true two-reads room room room room (omega arith) strictly numbers zero-interpretation (zero-fits two-reads) strict-target .0
+strict-source =
+    backward-along true two-reads room room room room (omega arith) strictly numbers zero-interpretation (zero-fits two-reads) strict-target .0
 
 -- and these are its rows: the indices, the bytes that the array holds there, and the root
 pub source-numbers : sourceValues plain (two-reads .source .rows) (two-reads .source .bits) (two-reads .source .side) found 5

@@ -21,7 +21,8 @@ use Rattle.lowering.specs.Tables.{readCount, readVar, readIndex, callCount, cal
 use Rattle.lowering.specs.Matching.{rowClasses}
 use Rattle.lowering.specs.Lowering.{arraySorts, Lowering, sourceRows, targetRows}
 use Rattle.lowering.specs.Check.{widthsOfSource, classesOfTables, classes, offsets}
-use Rattle.soundness.proofs.Facts.{S, m, Mapped, Image, Formed, Ends, walkOf, Found, ReadEntry, CallEntry, Owner, by-var, by-read, by-call, Owns}
+use Rattle.soundness.proofs.Facts.{S, m, Mapped, Image, Formed, Ends, walkOf, Found, ReadEntry, CallEntry, Owner, by-var, by-read, by-call}
+use Rattle.soundness.proofs.Facts.{Owns}
 use Rattle.soundness.specs.Passed.{Passed}
 use Rattle.soundness.proofs.Marks.{in-no-order}
 use Rattle.soundness.proofs.Tables.{ReadAt, CallAt, class-from, read-facts, call-facts, read-index}
@@ -92,12 +93,14 @@ module _ (L : Lowering) (P : Passed L) (F : Formed L) (small : targetRows L ≤ 
   -- two entries of one table at one place have one offset
   reads-one : (q p r : ℕ) → Owns L (by-read q) r → Owns L (by-read p) r → q ≡ p
   reads-one q p r (h, e) (l, f) =
-      let z : q * 3 ≡ p * 3 = sym (offset-of-read L (P .reached) q h) ∙ ap (λ (x : ℕ). getD (offsets L) x 0) (e ∙ sym f) ∙ offset-of-read L (P .reached) p l in
+      let z : q * 3 ≡ p * 3 =
+      sym (offset-of-read L (P .reached) q h) ∙ ap (λ (x : ℕ). getD (offsets L) x 0) (e ∙ sym f) ∙ offset-of-read L (P .reached) p l in
       omega arith
 
   calls-one : (q p r : ℕ) → Owns L (by-call q) r → Owns L (by-call p) r → q ≡ p
   calls-one q p r (h, e) (l, f) =
-      let z : q * 4 ≡ p * 4 = sym (offset-of-call L (P .reached) q h) ∙ ap (λ (x : ℕ). getD (offsets L) x 0) (e ∙ sym f) ∙ offset-of-call L (P .reached) p l in
+      let z : q * 4 ≡ p * 4 =
+      sym (offset-of-call L (P .reached) q h) ∙ ap (λ (x : ℕ). getD (offsets L) x 0) (e ∙ sym f) ∙ offset-of-call L (P .reached) p l in
       omega arith
 
   vars-one : (i j r : ℕ) → Owns L (by-var i) r → Owns L (by-var j) r → i ≡ j

@@ -130,7 +130,8 @@ module _ (L : Lowering) (F : Formed L) (M : Matched L) where
         covered-node L i r (Ite y (m L v) z) er refl (test, (earlier v lv (omega (arith, fr .1 .0)), (rest (omega (arith, fr .1 .1 .0)), tt)))
 
     -- the walk along a Select's pairs, from target row r on
-    walk-reached : (a j : ℕ) → j < i → (k s r : ℕ) → Pairs (arraySorts L .index a) (arraySorts L .cell a) (λ x. getD (widthsOfSource L) x 0) i (L .source .side) k s
+    walk-reached : (a j : ℕ) → j < i → (k s r : ℕ)
+        → Pairs (arraySorts L .index a) (arraySorts L .cell a) (λ x. getD (widthsOfSource L) x 0) i (L .source .side) k s
         → r < targetRows L → Ends L a j (walkOf L j k s r) → used L i ≡ usedEnd L (walkOf L j k s r) → Covered L i r
     unfolding walk
     walk-reached a j lj zero s r p h (q, z) e = covered-var L i r _ (rw (z .variable-is) at (M .of-read q (z .inside) .is-var)) (at-row, e)
@@ -158,7 +159,8 @@ module _ (L : Lowering) (F : Formed L) (M : Matched L) where
         go rec false c true ed u n = level-reached (getD (L .source .side) s 0) j v r lp lj lv h ed (λ k. rec (fieldAt (L .target .rows) r 3) k u n)
         go rec false c false ed u n = absurd u
 
-    node-reached : (node : Node) → S L i ≡ node → RowFormed (arraySorts L) (length (L .source .bits)) (L .source .side) (λ a. getD (widthsOfSource L) a 0) i node → Found L i node
+    node-reached : (node : Node) → S L i ≡ node
+        → RowFormed (arraySorts L) (length (L .source .bits)) (L .source .side) (λ a. getD (widthsOfSource L) a 0) i node → Found L i node
         → Covered L i (m L i)
     node-reached (Var w) e g f = covered-var L i (m L i) w f (at-row, ap (usedAt L (m L i)) e)
     node-reached (Const s w) e g f = core-reached (Const s w) (g .earlier) f
@@ -168,7 +170,8 @@ module _ (L : Lowering) (F : Formed L) (M : Matched L) where
     node-reached (Extend t a n) e g f = core-reached (Extend t a n) (g .earlier) f
     node-reached (Ite c t b) e g f = core-reached (Ite c t b) (g .earlier) f
     node-reached (Select a j s k) e g f =
-        let p = pairs-formed (arraySorts L .index a) (arraySorts L .cell a) (λ x. getD (widthsOfSource L) x 0) i (L .source .side) k s (g .follows .2) in
+        let p =
+        pairs-formed (arraySorts L .index a) (arraySorts L .cell a) (λ x. getD (widthsOfSource L) x 0) i (L .source .side) k s (g .follows .2) in
         walk-reached a j (g .earlier .0) k s (m L i) p (at-row .1) f (ap (usedAt L (m L i)) e)
     node-reached (Call f w s k) e g (t, c) = covered-var L i (m L i) w t (at-row, ap (usedAt L (m L i)) e)
     node-reached Unknown e g f = absurd f

@@ -36,7 +36,9 @@ module _ (troots : List ℕ) (test : ℕ → Pair → Bool) (needs : ℕ → ℕ
   stands : (k l q : ℕ) → At (pairs needs 0 n) k l q → (from + q < length troots) × Stands k l (from + q)
   unfolding rootAt
   stands k l q at =
-      let (a, (b, _)) = all-true (ltb (from + q) (length troots) ∷ test (getD troots (from + q) 0) (getD (pairs needs 0 n) q (pair 0 0)) ∷ []) (stand q (at .inside)) in
+      let (a, (b, _)) =
+      all-true (ltb (from + q) (length troots) ∷ test (getD troots (from + q) 0) (getD (pairs needs 0 n) q (pair 0 0)) ∷ [])
+      (stand q (at .inside)) in
       (ltb-true _ _ a, ap (test (getD troots (from + q) 0)) (sym (at .holds)) ∙ b)
 
   -- two entries that need a root have one
@@ -59,7 +61,9 @@ module _ (troots : List ℕ) (test : ℕ → Pair → Bool) (needs : ℕ → ℕ
 module _ (L : Lowering) where
   -- entries of one array need a root or have unequal constant indices; entries that need a root are of one array
   abbrev pub unequal : ℕ → ℕ → Bool
-  unequal k l = unequalConst (L .target .bits) (rowAt Target (L .target .rows) (readIndex (L .reads) k)) (rowAt Target (L .target .rows) (readIndex (L .reads) l))
+  unequal k l =
+      unequalConst (L .target .bits) (rowAt Target (L .target .rows) (readIndex (L .reads) k))
+      (rowAt Target (L .target .rows) (readIndex (L .reads) l))
 
   reads-need : (k l : ℕ) → readArray (L .reads) k ≡ readArray (L .reads) l
       → (unequal k l ≡ true) ⊎ (readsNeed (L .reads) (L .target .rows) (L .target .bits) k l ≡ true)
@@ -106,7 +110,8 @@ module _ (L : Lowering) (P : Passed L) where
       → (unequal L k l ≡ true) ⊎ ((q : ℕ) × (q < length (L .troots)) × ReadCong L k l (rootOf L q))
   cong-read k l h u e =
       ⊎-elim inl
-      (λ p. inr (has-root (L .troots) (readRoot (L .reads) (L .target .rows)) (readsNeed (L .reads) (L .target .rows) (L .target .bits)) (length (L .eroots)) (readCount (L .reads)) (P .read-roots) k l h u p))
+      (λ p. inr (has-root (L .troots) (readRoot (L .reads) (L .target .rows)) (readsNeed (L .reads) (L .target .rows) (L .target .bits))
+      (length (L .eroots)) (readCount (L .reads)) (P .read-roots) k l h u p))
       (reads-need L k l e)
 
   pub cong-call : (k l : ℕ) → k < l → l < callCount (L .calls) → oneFunction L k l ≡ true
@@ -120,10 +125,13 @@ module _ (L : Lowering) (P : Passed L) where
     where
       read : length (L .eroots) ≤ q → q < callRoots L → ReadPair L (rootOf L q)
       read u v =
-          let (k, l, hk, hl, e, r) = is-root (L .troots) (readRoot (L .reads) (L .target .rows)) (readsNeed (L .reads) (L .target .rows) (L .target .bits)) (length (L .eroots)) (readCount (L .reads)) (P .read-roots) q u v in
+          let (k, l, hk, hl, e, r) =
+          is-root (L .troots) (readRoot (L .reads) (L .target .rows)) (readsNeed (L .reads) (L .target .rows) (L .target .bits))
+          (length (L .eroots)) (readCount (L .reads)) (P .read-roots) q u v in
           (k, l, hk, hl, one-array L k l e, r)
 
       call : callRoots L ≤ q → CallPair L (rootOf L q)
       call v =
-          is-root (L .troots) (callRoot (L .calls) (L .cargs) (L .target .rows)) (oneFunction L) (callRoots L) (callCount (L .calls)) (P .call-roots) q v
+          is-root (L .troots) (callRoot (L .calls) (L .cargs) (L .target .rows)) (oneFunction L) (callRoots L) (callCount (L .calls)) (P .call-roots)
+          q v
           (omega (arith, h, P .roots-end))

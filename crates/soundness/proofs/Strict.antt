@@ -13,7 +13,8 @@ use Rattle.answers.specs.Result.{leaves}
 use Rattle.lists.proofs.Choice.{no-way}
 use Rattle.wf.specs.Widths.{badRoot}
 use Rattle.lowering.specs.Lowering.{Lowering, sourceRows}
-use Rattle.lowering.specs.Check.{widthsOfSource, widthsOfTarget, classes, offsets, refuse, firstRefusal, countAnswers, formsOf, bitAnswers, matchAnswers}
+use Rattle.lowering.specs.Check.{widthsOfSource, widthsOfTarget, classes, offsets, refuse, firstRefusal, countAnswers, formsOf, bitAnswers}
+use Rattle.lowering.specs.Check.{matchAnswers}
 use Rattle.lowering.specs.Check.{checkAnswer, checkAnswerBy, check, strictCheck}
 use Rattle.lowering.proofs.Refusals.{refusal-append}
 
@@ -45,7 +46,8 @@ module _ (L : Lowering) (w0 w1 c e : ℕ) where
   -- the roots' widths pass, or the number is 19
   bits-or-19 : (isAccepted (bits true) ≡ true) ⊎ (wordsOf (bits true) .number ≡ 19)
   unfolding firstRefusal
-  bits-or-19 = go (ltb (badRoot (widthsOfSource L) (L .eroots)) (length (L .eroots))) (ltb (badRoot (widthsOfTarget L) (L .troots)) (length (L .troots)))
+  bits-or-19 =
+      go (ltb (badRoot (widthsOfSource L) (L .eroots)) (length (L .eroots))) (ltb (badRoot (widthsOfTarget L) (L .troots)) (length (L .troots)))
     where
       go : (s t : Bool)
           → (let a = refuse s (BadRoot (badRoot (widthsOfSource L) (L .eroots)) 1) in
@@ -63,7 +65,8 @@ module _ (L : Lowering) (w0 w1 c e : ℕ) where
       refused : wordsOf (bits true) .number ≡ 19 → isAccepted (bits true) ≡ false
       refused number = ap (λ (n : ℕ). eqb n 0) number
 
-      go : (x : Bool) → isAccepted counts ≡ x → (y : Bool) → isAccepted graphs ≡ y → (isAccepted (bits true) ≡ true) ⊎ (wordsOf (bits true) .number ≡ 19)
+      go : (x : Bool) → isAccepted counts ≡ x → (y : Bool) → isAccepted graphs ≡ y
+          → (isAccepted (bits true) ≡ true) ⊎ (wordsOf (bits true) .number ≡ 19)
           → (checkAnswerBy true L w0 w1 c e ≡ checkAnswer L w0 w1 c e) ⊎ (wordsOf (checkAnswerBy true L w0 w1 c e) .number ≡ 19)
       go false p y q o = inl (rw (by-parts true, by-parts false, p))
       go true p false q o = inl (rw (by-parts true, by-parts false, p, q))
@@ -81,5 +84,6 @@ strict-leaves L ws0 ws1 cls ent accepts = go (strict-or-19 L (length ws0) (lengt
     go : (strict ≡ checkAnswer L (length ws0) (length ws1) (length cls) (length ent)) ⊎ (wordsOf strict .number ≡ 19)
         → strictCheck L ws0 ws1 cls ent ≡ check L ws0 ws1 cls ent
     go (inl same) =
-        ap (λ (a : Answer). leaves a ((ws0, widthsOfSource L) ∷ (ws1, widthsOfTarget L) ∷ (cls, classes L (sourceRows L)) ∷ (ent, offsets L) ∷ [])) same
+        ap (λ (a : Answer). leaves a ((ws0, widthsOfSource L) ∷ (ws1, widthsOfTarget L) ∷ (cls, classes L (sourceRows L)) ∷ (ent, offsets L) ∷ []))
+        same
     go (inr number) = no-way (sym accepts ∙ ap (λ (n : ℕ). eqb n 0) number)

@@ -20,7 +20,8 @@ use Rattle.rows.specs.Row.{rowCount, rowAt}
 use Rattle.rules.specs.Rule.{hasWidth}
 use Rattle.wf.specs.Widths.{rowWidth, widths}
 use Rattle.lowering.specs.Images.{fieldAt}
-use Rattle.lowering.specs.Tables.{readCount, readVar, readArray, readIndex, callCount, callVar, callStart, argCount, callArg, readGood, callGood, readClasses, callClasses, readOffsets}
+use Rattle.lowering.specs.Tables.{readCount, readVar, readArray, readIndex, callCount, callVar, callStart, argCount, callArg, readGood, callGood}
+use Rattle.lowering.specs.Tables.{readClasses, callClasses, readOffsets}
 use Rattle.lowering.specs.Lowering.{arraySorts, Lowering, targetRows}
 use Rattle.lowering.specs.Check.{widthsOfTarget, noClasses, classesOfReads, classesOfTables, offsets}
 use Rattle.lowering.proofs.Marks.{marks-length}
@@ -52,8 +53,12 @@ module _ (L : Lowering) {N : ℕ} (E : Reached L N) where
       × (hasWidth (widthsOfTarget L) (readIndex (L .reads) q) (arraySorts L .index (readArray (L .reads) q)) ≡ true)
   unfolding readGood
   read-facts q h =
-      let (_, (a, (b, (c, (d, _))))) = all-true _ (E .reads q h) in
-      (ltb-true _ _ a, row-is (rowAt Target (L .target .rows) (readVar (L .reads) q)) (Var (arraySorts L .cell (readArray (L .reads) q))) tt b, eqb-true _ _ c, d)
+      let (_, (a, (b, (c, (d, _))))) = all-true _ (E .reads q h) in (
+        ltb-true _ _ a,
+        row-is (rowAt Target (L .target .rows) (readVar (L .reads) q)) (Var (arraySorts L .cell (readArray (L .reads) q))) tt b,
+        eqb-true _ _ c,
+        d,
+      )
 
   pub call-facts : (q : ℕ) → q < callCount (L .calls)
       → (callVar (L .calls) q < targetRows L) × (T L (callVar (L .calls) q) ≡ Var (fieldAt (L .target .rows) (callVar (L .calls) q) 1))
@@ -107,16 +112,20 @@ module _ (L : Lowering) {N : ℕ} (E : Reached L N) where
   -- numbers that the entries put at their variables stand there after their table, the reads' also after the calls'
   at-reads : (number : ℕ → ℕ) (q : ℕ) → q < readCount (L .reads)
       → getD (marks (readVar (L .reads)) number (noClasses L) (readCount (L .reads))) (readVar (L .reads) q) 0 ≡ number q
-  at-reads number = table-at (readVar (L .reads)) 2 (readCount (L .reads)) (noClasses L) (omega arith) read-inside (λ k h. read-facts k h .2) number (noClasses L) refl
+  at-reads number =
+      table-at (readVar (L .reads)) 2 (readCount (L .reads)) (noClasses L) (omega arith) read-inside (λ k h. read-facts k h .2) number (noClasses L)
+      refl
 
   at-calls : (number : ℕ → ℕ) (e : List ℕ) → length e ≡ length (classesOfReads L) → (q : ℕ) → q < callCount (L .calls)
       → getD (marks (callVar (L .calls)) number e (callCount (L .calls))) (callVar (L .calls) q) 0 ≡ number q
-  at-calls number e size = table-at (callVar (L .calls)) 3 (callCount (L .calls)) (classesOfReads L) (omega arith) call-inside (λ k h. call-facts k h .2) number e size
+  at-calls number e size =
+      table-at (callVar (L .calls)) 3 (callCount (L .calls)) (classesOfReads L) (omega arith) call-inside (λ k h. call-facts k h .2) number e size
 
   past-calls : (number : ℕ → ℕ) (e : List ℕ) → length e ≡ length (classesOfReads L) → (q : ℕ) → q < readCount (L .reads)
       → getD (marks (callVar (L .calls)) number e (callCount (L .calls))) (readVar (L .reads) q) 0 ≡ getD e (readVar (L .reads) q) 0
   past-calls number e size q h =
-      table-stay (callVar (L .calls)) 3 (callCount (L .calls)) (classesOfReads L) (omega arith) call-inside (λ k h. call-facts k h .2) number e size (readVar (L .reads) q)
+      table-stay (callVar (L .calls)) 3 (callCount (L .calls)) (classesOfReads L) (omega arith) call-inside (λ k h. call-facts k h .2) number e size
+      (readVar (L .reads) q)
       (rw (at-reads (λ k. 2) q h) (omega arith))
 
   pub class-of-read : (q : ℕ) → q < readCount (L .reads) → getD (classesOfTables L) (readVar (L .reads) q) 0 ≡ 2
@@ -138,8 +147,10 @@ module _ (L : Lowering) {N : ℕ} (E : Reached L N) where
     where
       reads : (getD (classesOfReads L) r 0 ≡ getD (noClasses L) r 0) ⊎ ReadAt L r
       reads =
-          table-from (readVar (L .reads)) 2 (readCount (L .reads)) (noClasses L) (omega arith) read-inside (λ k h. read-facts k h .2) (λ k. 2) (noClasses L) refl r
+          table-from (readVar (L .reads)) 2 (readCount (L .reads)) (noClasses L) (omega arith) read-inside (λ k h. read-facts k h .2) (λ k. 2)
+          (noClasses L) refl r
 
       calls : (getD (classesOfTables L) r 0 ≡ getD (classesOfReads L) r 0) ⊎ CallAt L r
       calls =
-          table-from (callVar (L .calls)) 3 (callCount (L .calls)) (classesOfReads L) (omega arith) call-inside (λ k h. call-facts k h .2) (λ k. 3) (classesOfReads L) refl r
+          table-from (callVar (L .calls)) 3 (callCount (L .calls)) (classesOfReads L) (omega arith) call-inside (λ k h. call-facts k h .2) (λ k. 3)
+          (classesOfReads L) refl r

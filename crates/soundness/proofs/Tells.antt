@@ -112,10 +112,12 @@ module _ (L : Lowering) (F : Formed L) (A : ℕ → ℕ) (assigns : Assigns A (L
   tw r = getD (widthsOfTarget L) r 0
 
   pub row-value : (r : ℕ) (node : Node) → r < targetRows L → T L r ≡ node → tv r ≡ nodeValue (L .target .bits) A tv r node
-  row-value r node h e = target-value (L .target .bits) [] (L .target .rows) (widthsOfTarget L) A (F .target-formed) r h ∙ ap (nodeValue (L .target .bits) A tv r) e
+  row-value r node h e =
+      target-value (L .target .bits) [] (L .target .rows) (widthsOfTarget L) A (F .target-formed) r h ∙ ap (nodeValue (L .target .bits) A tv r) e
 
   pub row-width : (r : ℕ) → r < targetRows L → wid (tv r) ≡ tw r
-  row-width r h = value-formed (L .target .bits) [] (L .target .rows) (widthsOfTarget L) A (F .target-formed) (F .target-bits) (F .target-core) assigns r h .0
+  row-width r h =
+      value-formed (L .target .bits) [] (L .target .rows) (widthsOfTarget L) A (F .target-formed) (F .target-bits) (F .target-core) assigns r h .0
 
   pub row-formed : (r : ℕ) (node : Node) → r < targetRows L → T L r ≡ node → RowFormed plain (length (L .target .bits)) [] tw r node
   row-formed r node h e = rw e at (F .target-formed r h)
@@ -140,7 +142,8 @@ module _ (L : Lowering) (F : Formed L) (A : ℕ → ℕ) (assigns : Assigns A (L
   or-not-number r n a b h e k q =
       let f = row-formed r (Bin tBoolOr n b) h e in
       let g = row-formed n (Un tNot a) k q in
-      let z : nat (tv n) ≡ bvnot 1 (nat (tv a)) = ap nat (row-value n (Un tNot a) k q) ∙ rw (row-width a (omega (arith, g .earlier .0)), g .follows .1 refl) in
+      let z : nat (tv n) ≡ bvnot 1 (nat (tv a)) =
+      ap nat (row-value n (Un tNot a) k q) ∙ rw (row-width a (omega (arith, g .earlier .0)), g .follows .1 refl) in
       ap nat (row-value r (Bin tBoolOr n b) h e) ∙ rw (row-width n k, f .follows .bits refl .0, z)
 
   -- the rows under an Eq have one width
@@ -180,7 +183,8 @@ module _ (L : Lowering) (F : Formed L) (A : ℕ → ℕ) (assigns : Assigns A (L
       let (p, (h, (e, (q, (g, (s, (a, _))))))) = all-true _ t in
       let n = fieldAt (L .target .rows) r 1 in
       let pos : 0 < k = ltb-true _ _ p in
-      tells-at (or-not-number r n (fieldAt (L .target .rows) n 1) (fieldAt (L .target .rows) r 2) (ltb-true _ _ h) (or-row (L .target .rows) r e) (ltb-true _ _ g) (not-row (L .target .rows) n s))
+      tells-at (or-not-number r n (fieldAt (L .target .rows) n 1) (fieldAt (L .target .rows) r 2) (ltb-true _ _ h) (or-row (L .target .rows) r e)
+      (ltb-true _ _ g) (not-row (L .target .rows) n s))
       (λ f x. f (λ l b. x l (omega arith)))
       (λ f x. f (λ l b. x l (omega arith)))
       (tells-if (equal-tells xs ys (k - 1) (fieldAt (L .target .rows) n 1) a) (eq-tells u v (fieldAt (L .target .rows) r 2) q))

@@ -1,7 +1,7 @@
--- READ THIS FIRST: what it means that Check accepts, and that the strict check does (`strict` says which of the two; `truth strict` is when it takes a
--- root for true). The names are those of specs/ (Sound and crates/meaning: what graphs mean; Choices: which values of variables remain open; Transfer:
--- the assignment and the interpretation that are found) and of crates/lowering (Check: the operation's answer). docs/PROOF.md tells the argument.
--- Assumes that the check accepts, whatever lists are lent, and that the target has no more words than a slice can have. Nothing else.
+-- READ THIS FIRST: what it means that Check accepts, and that the strict check does (`strict` says which of the two; `truth strict` is when it takes
+-- a root for true). The names are those of specs/ (Sound and crates/meaning: what graphs mean; Choices: which values of variables remain open;
+-- Transfer: the assignment and the interpretation that are found) and of crates/lowering (Check: the operation's answer). docs/PROOF.md tells the
+-- argument. Assumes that the check accepts, whatever lists are lent, and that the target has no more words than a slice can have. Nothing else.
 use Prim.Native.Nat.{ℕ, _<_, _≤_}
 use mathlib.Core.Path.{_≡_, sym, ap, _∙_}
 use mathlib.Core.Bool.{Bool, true, false}
@@ -42,7 +42,8 @@ module _ (L : Lowering) (ws0 ws1 cls ent : List ℕ) (accepts : StrictlyAccepts 
   pub strictly-accepted : Accepts L ws0 ws1 cls ent
   strictly-accepted = ap (λ (o : Result). isAccepted (o .answer)) (sym (strict-leaves L ws0 ws1 cls ent accepts)) ∙ accepts
 
-  pub truths-agree : ((I : Interpretation) → SourceTrueBy L isTrueBit I ↔ SourceTrue L I) × ((A : ℕ → ℕ) → TargetTrueBy L isTrueBit A ↔ TargetTrue L A)
+  pub truths-agree : ((I : Interpretation) → SourceTrueBy L isTrueBit I ↔ SourceTrue L I)
+      × ((A : ℕ → ℕ) → TargetTrueBy L isTrueBit A ↔ TargetTrue L A)
   truths-agree =
       let graphs = formed L (passed true L ws0 ws1 cls ent accepts) in
       let bits = one-bit L ws0 ws1 cls ent accepts in

@@ -25,7 +25,8 @@ use Rattle.soundness.proofs.Tables.{row-of-width}
 roots-agree : (values : ℕ → Val) (roots : List ℕ) → ((k : ℕ) → k < length roots → wid (values (getD roots k 0)) ≡ 1)
     → RootsTrueBy isTrueBit values roots ↔ RootsTrue values roots
 roots-agree values roots bit =
-    let same : (k : ℕ) → k < length roots → isTrueBit (values (getD roots k 0)) ≡ isTrue (values (getD roots k 0)) = λ k h. one-bit-truth (values (getD roots k 0)) (bit k h) in
+    let same : (k : ℕ) → k < length roots → isTrueBit (values (getD roots k 0)) ≡ isTrue (values (getD roots k 0)) =
+    λ k h. one-bit-truth (values (getD roots k 0)) (bit k h) in
     (λ t k h. sym (same k h) ∙ t k h, λ t k h. same k h ∙ t k h)
 
 module _ (L : Lowering) (F : Formed L) (bits : OneBit L) where
@@ -46,8 +47,10 @@ module _ (L : Lowering) (F : Formed L) (bits : OneBit L) where
       let (f, g) = roots-agree (valueOfSource L I) (L .eroots) (source-bit I) in (λ (kind, t). (kind, f t), λ (kind, t). (kind, g t))
 
   pub target-truths : (A : ℕ → ℕ) → TargetTrueBy L isTrueBit A ↔ TargetTrue L A
-  target-truths A =
-      (λ (fits, t). (fits, roots-agree (valueOfTarget L A) (L .troots) (target-bit A fits) .0 t), λ (fits, t). (fits, roots-agree (valueOfTarget L A) (L .troots) (target-bit A fits) .1 t))
+  target-truths A = (
+    λ (fits, t). (fits, roots-agree (valueOfTarget L A) (L .troots) (target-bit A fits) .0 t),
+    λ (fits, t). (fits, roots-agree (valueOfTarget L A) (L .troots) (target-bit A fits) .1 t),
+  )
 
 -- by the switch: of the check that does not look at the roots' widths there is nothing to say
 module _ (L : Lowering) (F : Formed L) where

@@ -9,7 +9,8 @@ use borrow.Author.Tests.{eqb-true}
 use lib.Dec.{eqb, ltb, leb}
 use lib.ListN.{length, getD}
 use Rattle.arith.proofs.Fits.{add-fits, sub-fits, mul-fits, extract-fits, concat-fits, zero-extend-fits, sign-extend-fits}
-use Rattle.comparisons.proofs.Fits.{ite-fits, equal-fits, distinct-fits, ult-fits, ule-fits, ugt-fits, uge-fits, slt-fits, sle-fits, sgt-fits, sge-fits}
+use Rattle.comparisons.proofs.Fits.{ite-fits, equal-fits, distinct-fits, ult-fits, ule-fits, ugt-fits, uge-fits, slt-fits, sle-fits, sgt-fits}
+use Rattle.comparisons.proofs.Fits.{sge-fits}
 use Rattle.bv.proofs.Fits.{neg-fits}
 use Rattle.bitwise.proofs.Fits.{not-fits, and-fits, or-fits, xor-fits, shl-fits, lshr-fits, ashr-fits, rotr-fits, rotl-fits}
 use Rattle.divide.proofs.Fits.{udiv-fits, urem-fits, sdiv-fits, srem-fits}
@@ -58,7 +59,8 @@ module _ (vs : List Val) (fit : (j : ℕ) → Fit (arg vs j)) where
       let (e, s) = even (wid (arg vs 0)) 1 (same (wid (arg vs 1)) 1 1) h in
       let (_, t) = even (wid (arg vs 1)) 1 1 (rw s at h) in
       let l : wid (arg vs 0) ≡ 1 = e in
-      rw (s, t) (subst (λ (w : ℕ). f (wid (arg vs 0)) (nat (arg vs 0)) (nat (arg vs 1)) < 2 ^ w) l (law (wid (arg vs 0)) (nat (arg vs 0)) (nat (arg vs 1))))
+      rw (s, t) (subst (λ (w : ℕ). f (wid (arg vs 0)) (nat (arg vs 0)) (nat (arg vs 1)) < 2 ^ w) l
+      (law (wid (arg vs 0)) (nat (arg vs 0)) (nat (arg vs 1))))
 
   -- Extract, Ite and Not by their rules
   part : (i j : ℕ) → 0 < cond (leb j i) (cond (ltb i (wid (arg vs 0))) (i - j + 1) 0) 0 → (n : ℕ) → n < 2 ^ (i - j + 1)

@@ -100,7 +100,8 @@ module _ (bits side : List ℕ) (width : ℕ → ℕ) (look : ℕ → Val) (i : 
   var-formed given Unknown g e r v = absurd (omega arith)
 
   -- a row's value, where the operands before it have their widths and fit
-  pub row-formed : {σ : Sorts} (given : ℕ → ℕ) (node : Node) → ((k : ℕ) → getD bits k 0 < 2) → ((a : ℕ) → Fit (look a)) → TagGood node → tagOf node < 37
+  pub row-formed : {σ : Sorts} (given : ℕ → ℕ) (node : Node) → ((k : ℕ) → getD bits k 0 < 2) → ((a : ℕ) → Fit (look a)) → TagGood node
+      → tagOf node < 37
       → RowFormed σ (length bits) side width i node → ((w : ℕ) → node ≡ Var w → given i < 2 ^ w)
       → (wid (nodeValue bits given look i node) ≡ width i) × Fit (nodeValue bits given look i node)
   row-formed given node clean fits g c r v = go (eqb (tagOf node) tVar) refl
@@ -112,8 +113,11 @@ module _ (bits side : List ℕ) (width : ℕ → ℕ) (look : ℕ → Val) (i : 
       go false e =
           let no : tagOf node ≡ tVar → ⊥ = eqb-false (tagOf node) tVar e in
           let w = core-width node g c no r in
-          let above : 0 < wid (coreValue bits look node) = rw w (r .is-width .positive) in
-          (w, operate-fits (tagOf node) (omega (arith, no)) c (parameters bits node) _ (fit-map look fits (operands node)) (const-fits node clean) above)
+          let above : 0 < wid (coreValue bits look node) = rw w (r .is-width .positive) in (
+            w,
+            operate-fits (tagOf node) (omega (arith, no)) c (parameters bits node) _ (fit-map look fits (operands node)) (const-fits node clean)
+                above,
+          )
 
 module _ {σ : Sorts} (bits side g ws : List ℕ) (given : ℕ → ℕ) (formed : WellFormed σ Target (length bits) side g ws)
     (clean : (k : ℕ) → getD bits k 0 < 2) (core : (i : ℕ) → i < rowCount Target g → tagOf (nodeOf (rowAt Target g i)) < 37)
@@ -136,7 +140,8 @@ module _ {σ : Sorts} (bits side g ws : List ℕ) (given : ℕ → ℕ) (formed 
           rw (build-at f (val 0 0) n i h)
           (row-formed bits side (λ a. getD ws a 0) (λ a. getD (valuesTo bits given g i) a (val 0 0)) i
           (λ a l. ap wid (sym (stay a l)) ∙ ih a l (omega arith) .0)
-          given (nodeOf (rowAt Target g i)) clean (λ a. fits a (decLt a i)) (node-good (rowAt Target g i)) (core i h) (formed i h) (λ w q. assigns i w h q))
+          given (nodeOf (rowAt Target g i)) clean (λ a. fits a (decLt a i)) (node-good (rowAt Target g i)) (core i h) (formed i h)
+          (λ w q. assigns i w h q))
         where
           stay : (a : ℕ) → a < i → value bits given g a ≡ getD (valuesTo bits given g i) a (val 0 0)
           stay a l = build-stay f (val 0 0) n i a l (omega arith)

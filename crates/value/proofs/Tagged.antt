@@ -14,7 +14,8 @@ use Rattle.rows.specs.Row.{rowCount, rowAt}
 use Rattle.encoding.specs.Encoding.{rowGood, rowBad, badRow}
 use Rattle.rows.specs.Tags.{tVar}
 use Rattle.rows.specs.Node.{nodeOf}
-use Rattle.rows.proofs.View.{View, Shape, is-var, is-const, is-extract, is-extend, is-ite, is-un, is-select, is-call, is-bin, is-unknown, view-of, var-viewed}
+use Rattle.rows.proofs.View.{View, Shape, is-var, is-const, is-extract, is-extend, is-ite, is-un, is-select, is-call, is-bin, is-unknown, view-of}
+use Rattle.rows.proofs.View.{var-viewed}
 use Rattle.value.specs.Operate.{tagOf}
 
 viewed-core : (t a b c d : ℕ) (node : Node) → t < 37 → View t a b c d node → tagOf node < 37

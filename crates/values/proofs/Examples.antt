@@ -17,7 +17,8 @@ t4 t a b c rest = t ∷ a ∷ b ∷ c ∷ rest
 abbrev two : ℕ → List ℕ
 two t = t4 0 8 0 0 (t4 0 8 0 0 (t4 t 0 1 0 []))
 
-case-12-sdiv : values (two 35) [] (128 ∷ 255 ∷ 7 ∷ []) (9 ∷ 9 ∷ 9 ∷ []) (9 ∷ 9 ∷ 9 ∷ 9 ∷ []) ≡ result Accepted ((8 ∷ 8 ∷ 8 ∷ []) ∷ (128 ∷ 255 ∷ 128 ∷ 0 ∷ []) ∷ [])
+case-12-sdiv : values (two 35) [] (128 ∷ 255 ∷ 7 ∷ []) (9 ∷ 9 ∷ 9 ∷ []) (9 ∷ 9 ∷ 9 ∷ 9 ∷ [])
+    ≡ result Accepted ((8 ∷ 8 ∷ 8 ∷ []) ∷ (128 ∷ 255 ∷ 128 ∷ 0 ∷ []) ∷ [])
 unfolding first build operate
 case-12-sdiv = refl
 

@@ -42,9 +42,13 @@ module _ (g bits given : List ℕ) (rows : isAccepted (rowsAnswer Target g bits 
   passed : (rowCount Target g ≤ badRow Target g) × (length bits ≤ badBit bits) × (rowCount Target g ≤ illRow plain Target (length bits) [] g)
   passed = rows-passed Accepted Target g bits _ rows
 
-  words-passed : (rowCount Target g ≤ wideRow (widths plain Target (length bits) [] g) (rowCount Target g)) × (length given ≡ rowCount Target g) × (rowCount Target g ≤ badWord g given)
+  words-passed : (rowCount Target g ≤ wideRow (widths plain Target (length bits) [] g) (rowCount Target g)) × (length given ≡ rowCount Target g)
+      × (rowCount Target g ≤ badWord g given)
   words-passed =
-      let (p, q, r) = given-tests (ltb (wideRow (widths plain Target (length bits) [] g) (rowCount Target g)) (rowCount Target g)) (eqb (length given) (rowCount Target g)) (ltb (badWord g given) (rowCount Target g)) (wideRow (widths plain Target (length bits) [] g) (rowCount Target g)) (badWord g given) (rowCount Target g) (length given) words in
+      let (p, q, r) =
+      given-tests (ltb (wideRow (widths plain Target (length bits) [] g) (rowCount Target g)) (rowCount Target g))
+      (eqb (length given) (rowCount Target g)) (ltb (badWord g given) (rowCount Target g))
+      (wideRow (widths plain Target (length bits) [] g) (rowCount Target g)) (badWord g given) (rowCount Target g) (length given) words in
       (ltb-false _ _ p, eqb-true _ _ q, ltb-false _ _ r)
 
   pub width-count : length (widths plain Target (length bits) [] g) ≡ rowCount Target g
@@ -57,7 +61,8 @@ module _ (g bits given : List ℕ) (rows : isAccepted (rowsAnswer Target g bits 
   narrow : (a : ℕ) → getD (widths plain Target (length bits) [] g) a 0 ≤ 64
   narrow =
       getD-every (widths plain Target (length bits) [] g) (λ x. x ≤ 64) (omega arith)
-      (λ k h. ltb-false 64 _ (first-before (rowWide (widths plain Target (length bits) [] g)) (rowCount Target g) k (omega (arith, words-passed .0, width-count))))
+      (λ k h. ltb-false 64 _ (first-before (rowWide (widths plain Target (length bits) [] g)) (rowCount Target g) k
+      (omega (arith, words-passed .0, width-count))))
 
   fit : (i w : ℕ) → i < rowCount Target g → nodeOf (rowAt Target g i) ≡ Var w → getD given i 0 < 2 ^ w
   fit i w h q =

@@ -51,7 +51,9 @@ module _ (g bits given ws vs : List ℕ) where
   settled : (a : Answer) → valuesAnswer g bits given (length ws) (length vs) ≡ a
       → values g bits given ws vs
       ≡ result a ((lent a ws (widths plain Target (length bits) [] g)) ∷ (lent a vs (numbersTo g bits given (rowCount Target g))) ∷ [])
-  settled a e = ap (λ (x : Answer). result x ((lent x ws (widths plain Target (length bits) [] g)) ∷ (lent x vs (numbersTo g bits given (rowCount Target g))) ∷ [])) e
+  settled a e =
+      ap (λ (x : Answer). result x ((lent x ws (widths plain Target (length bits) [] g)) ∷ (lent x vs (numbersTo g bits given (rowCount Target g)))
+      ∷ [])) e
 
   pub values-15 : ragged Target g ≡ true → values g bits given ws vs ≡ result (RowCount 2) (ws ∷ vs ∷ [])
   values-15 r = settled (RowCount 2) (rw r)
@@ -70,11 +72,13 @@ module _ (g bits given ws vs : List ℕ) where
             ≡ result (rowsAnswer Target g bits (illRow plain Target (length bits) [] g)) (replicate (length ws) 0 ∷ replicate (length vs) 0 ∷ [])
         values-rows e =
             settled (rowsAnswer Target g bits (illRow plain Target (length bits) [] g)) (rw (whole, le-ltb _ _ room, le-ltb _ _ room-too, e))
-            ∙ ap₂ (λ (k l : List ℕ). result (rowsAnswer Target g bits (illRow plain Target (length bits) [] g)) (k ∷ l ∷ [])) (zero ws (widths plain Target (length bits) [] g)) (zero vs (numbersTo g bits given (rowCount Target g)))
+            ∙ ap₂ (λ (k l : List ℕ). result (rowsAnswer Target g bits (illRow plain Target (length bits) [] g)) (k ∷ l ∷ []))
+            (zero ws (widths plain Target (length bits) [] g)) (zero vs (numbersTo g bits given (rowCount Target g)))
           where
             zero : (old new : List ℕ) → lent (rowsAnswer Target g bits (illRow plain Target (length bits) [] g)) old new ≡ replicate (length old) 0
             zero old new =
-                rows-zero (ltb (badRow Target g) (rowCount Target g)) (ltb (badBit bits) (length bits)) (ltb (illRow plain Target (length bits) [] g) (rowCount Target g))
+                rows-zero (ltb (badRow Target g) (rowCount Target g)) (ltb (badBit bits) (length bits))
+                (ltb (illRow plain Target (length bits) [] g) (rowCount Target g))
                 (badRow Target g) (badBit bits) 2 (illRow plain Target (length bits) [] g) old new e
 
         module _ (rows : isAccepted (rowsAnswer Target g bits (illRow plain Target (length bits) [] g)) ≡ true) where
@@ -86,16 +90,26 @@ module _ (g bits given ws vs : List ℕ) where
               ≡ result (givenAnswer g (widths plain Target (length bits) [] g) given) (replicate (length ws) 0 ∷ replicate (length vs) 0 ∷ [])
           values-given e =
               settled (givenAnswer g (widths plain Target (length bits) [] g) given) answer-is
-              ∙ ap₂ (λ (k l : List ℕ). result (givenAnswer g (widths plain Target (length bits) [] g) given) (k ∷ l ∷ [])) (zero ws (widths plain Target (length bits) [] g)) (zero vs (numbersTo g bits given (rowCount Target g)))
+              ∙ ap₂ (λ (k l : List ℕ). result (givenAnswer g (widths plain Target (length bits) [] g) given) (k ∷ l ∷ []))
+              (zero ws (widths plain Target (length bits) [] g)) (zero vs (numbersTo g bits given (rowCount Target g)))
             where
               zero : (old new : List ℕ) → lent (givenAnswer g (widths plain Target (length bits) [] g) given) old new ≡ replicate (length old) 0
-              zero old new = given-zero (ltb (wideRow (widths plain Target (length bits) [] g) (rowCount Target g)) (rowCount Target g)) (eqb (length given) (rowCount Target g)) (ltb (badWord g given) (rowCount Target g)) (wideRow (widths plain Target (length bits) [] g) (rowCount Target g)) (badWord g given) (rowCount Target g) (length given) old new e
+              zero old new =
+                  given-zero (ltb (wideRow (widths plain Target (length bits) [] g) (rowCount Target g)) (rowCount Target g))
+                  (eqb (length given) (rowCount Target g)) (ltb (badWord g given) (rowCount Target g))
+                  (wideRow (widths plain Target (length bits) [] g) (rowCount Target g)) (badWord g given) (rowCount Target g) (length given) old new
+                  e
 
           pub values-accepted : isAccepted (givenAnswer g (widths plain Target (length bits) [] g) given) ≡ true
               → values g bits given ws vs
-              ≡ result Accepted ((widths plain Target (length bits) [] g ++ replicate (length ws - rowCount Target g) 0) ∷ (numbersTo g bits given (rowCount Target g) ++ replicate (length vs - rowCount Target g) 0) ∷ [])
+              ≡ result Accepted ((widths plain Target (length bits) [] g ++ replicate (length ws - rowCount Target g) 0)
+              ∷ (numbersTo g bits given (rowCount Target g) ++ replicate (length vs - rowCount Target g) 0) ∷ [])
           values-accepted e =
-              settled Accepted (answer-is ∙ given-yes (ltb (wideRow (widths plain Target (length bits) [] g) (rowCount Target g)) (rowCount Target g)) (eqb (length given) (rowCount Target g)) (ltb (badWord g given) (rowCount Target g)) (wideRow (widths plain Target (length bits) [] g) (rowCount Target g)) (badWord g given) (rowCount Target g) (length given) e)
+              settled Accepted (answer-is ∙ given-yes (ltb (wideRow (widths plain Target (length bits) [] g) (rowCount Target g)) (rowCount Target g))
+              (eqb (length given) (rowCount Target g)) (ltb (badWord g given) (rowCount Target g))
+              (wideRow (widths plain Target (length bits) [] g) (rowCount Target g)) (badWord g given) (rowCount Target g) (length given) e)
               ∙ ap₂ (λ (k l : List ℕ). result Accepted (k ∷ l ∷ []))
-              (ap (λ (n : ℕ). widths plain Target (length bits) [] g ++ replicate (length ws - n) 0) (build-length (rowWidth plain Target (length bits) [] g) (rowCount Target g)))
-              (ap (λ (n : ℕ). numbersTo g bits given (rowCount Target g) ++ replicate (length vs - n) 0) (numbers-length g bits given (rowCount Target g)))
+              (ap (λ (n : ℕ). widths plain Target (length bits) [] g ++ replicate (length ws - n) 0)
+              (build-length (rowWidth plain Target (length bits) [] g) (rowCount Target g)))
+              (ap (λ (n : ℕ). numbersTo g bits given (rowCount Target g) ++ replicate (length vs - n) 0)
+              (numbers-length g bits given (rowCount Target g)))

@@ -34,7 +34,8 @@ module _ (g bits ws : List ℕ) (a : Answer) (l : List ℕ) (done : result a (l 
   pub widths-refused : isAccepted (rowsAnswer Target g bits (illRow plain Target (length bits) [] g)) ≡ false → l ≡ replicate (length ws) 0
   widths-refused e =
       widths-list
-      ∙ rows-zero (ltb (badRow Target g) (rowCount Target g)) (ltb (badBit bits) (length bits)) (ltb (illRow plain Target (length bits) [] g) (rowCount Target g))
+      ∙ rows-zero (ltb (badRow Target g) (rowCount Target g)) (ltb (badBit bits) (length bits))
+      (ltb (illRow plain Target (length bits) [] g) (rowCount Target g))
       (badRow Target g) (badBit bits) 2 (illRow plain Target (length bits) [] g) ws (widths plain Target (length bits) [] g) e
 
   pub widths-accepted : isAccepted (rowsAnswer Target g bits (illRow plain Target (length bits) [] g)) ≡ true
@@ -43,7 +44,8 @@ module _ (g bits ws : List ℕ) (a : Answer) (l : List ℕ) (done : result a (l 
       widths-list
       ∙ ap (λ (x : Answer). lent x ws (widths plain Target (length bits) [] g))
       (rows-accepted Target g bits _ e)
-      ∙ ap (λ (n : ℕ). widths plain Target (length bits) [] g ++ replicate (length ws - n) 0) (build-length (rowWidth plain Target (length bits) [] g) (rowCount Target g))
+      ∙ ap (λ (n : ℕ). widths plain Target (length bits) [] g ++ replicate (length ws - n) 0)
+      (build-length (rowWidth plain Target (length bits) [] g) (rowCount Target g))
 
   pub widths-front : isAccepted (rowsAnswer Target g bits (illRow plain Target (length bits) [] g)) ≡ true
       → (n : ℕ) → n ≡ rowCount Target g → take n l ≡ widths plain Target (length bits) [] g

@@ -18,7 +18,8 @@ use Rattle.rows.specs.declared.Node.the-variants.{Var, Const, Un, Bin, Extract,
 use Rattle.rows.specs.Row.{rowCount, rowAt}
 use Rattle.rows.specs.Tags.{tConcat, tNot, isBool}
 use Rattle.rows.specs.Node.{nodeOf, operands}
-use Rattle.rules.specs.Rule.{ceiling, capped, same, unWidth, binWidth, hasWidth, pairBad, argBad, entriesGood, chainGood, argsGood, rule, earlier, nodeWidth}
+use Rattle.rules.specs.Rule.{ceiling, capped, same, unWidth, binWidth, hasWidth, pairBad, argBad, entriesGood, chainGood, argsGood, rule, earlier}
+use Rattle.rules.specs.Rule.{nodeWidth}
 use Rattle.wf.specs.Widths.{rowWidth, widthsTo, widths, rowIll, illRow}
 use Rattle.wf.specs.Promise.{Below, PairFormed, ArgFormed, BinFormed, Follows, IsWidth, AreWidths, RowFormed, WellFormed}
 

@@ -58,14 +58,18 @@ module _ (σ : Sorts) (graph : Graph) (nbits : ℕ) (side g : List ℕ) where
   -- a pass to the end: no row is bad, none ill-formed
   pub stop-none : rowCount graph g ≤ stopRow σ graph nbits side g
       → (badRow graph g ≡ rowCount graph g) × (illRow σ graph nbits side g ≡ rowCount graph g)
-  stop-none h =
-      (first-none (rowBad graph g) (rowCount graph g) (λ j l. stop-good j (omega arith)), first-none (rowIll σ graph nbits side g) (rowCount graph g) (λ j l. stop-formed j (omega arith)))
+  stop-none h = (
+    first-none (rowBad graph g) (rowCount graph g) (λ j l. stop-good j (omega arith)),
+    first-none (rowIll σ graph nbits side g) (rowCount graph g) (λ j l. stop-formed j (omega arith)),
+  )
 
   -- a stop in a graph without bad rows is the first ill-formed row
-  pub stop-ill : stopRow σ graph nbits side g < rowCount graph g → rowCount graph g ≤ badRow graph g → illRow σ graph nbits side g ≡ stopRow σ graph nbits side g
+  pub stop-ill : stopRow σ graph nbits side g < rowCount graph g → rowCount graph g ≤ badRow graph g
+      → illRow σ graph nbits side g ≡ stopRow σ graph nbits side g
   stop-ill h b =
       first-at (rowIll σ graph nbits side g) (rowCount graph g) (stopRow σ graph nbits side g) h
-      (rw (not-false (rowGood graph (rowAt graph g (stopRow σ graph nbits side g))) good) at (first-hit (rowStops σ graph nbits side g) (rowCount graph g) h)) stop-formed
+      (rw (not-false (rowGood graph (rowAt graph g (stopRow σ graph nbits side g))) good) at (first-hit (rowStops σ graph nbits side g)
+      (rowCount graph g) h)) stop-formed
     where
       good : rowBad graph g (stopRow σ graph nbits side g) ≡ false
       good = first-before (rowBad graph g) (rowCount graph g) (stopRow σ graph nbits side g) (omega arith)

@@ -52,7 +52,8 @@ case-8-source : sourceWidths (s5 0 32 0 0 0 (s5 0 32 0 0 0 (s5 37 7 0 0 0 (s5 37
 unfolding first build
 case-8-source = refl
 
-case-8-target : targetWidths (t4 0 32 0 0 (t4 0 32 0 0 (t4 0 8 0 0 (t4 0 8 0 0 (t4 19 0 1 0 (t4 29 4 0 0 (t4 19 2 3 0 (t4 31 5 6 0 [])))))))) [] (junk 8)
+case-8-target : targetWidths (t4 0 32 0 0 (t4 0 32 0 0 (t4 0 8 0 0 (t4 0 8 0 0 (t4 19 0 1 0 (t4 29 4 0 0 (t4 19 2 3 0 (t4 31 5 6 0 [])))))))) []
+    (junk 8)
     ≡ result Accepted ((32 ∷ 32 ∷ 8 ∷ 8 ∷ 1 ∷ 1 ∷ 1 ∷ 1 ∷ []) ∷ [])
 unfolding first build
 case-8-target = refl

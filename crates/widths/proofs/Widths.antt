@@ -41,7 +41,8 @@ lent-rows : (graph : Graph) (g bits : List ℕ) (row : ℕ) → row < rowCount g
     → lent (rowsAnswer graph g bits row) old new ≡ replicate (length old) 0
 lent-rows graph g bits row h old new =
     rw (lt-ltb _ _ h)
-    (lent-zero (ltb (badRow graph g) (rowCount graph g)) (ltb (badBit bits) (length bits)) graph (badRow graph g) (badBit bits) (graphNumber graph) row old new)
+    (lent-zero (ltb (badRow graph g) (rowCount graph g)) (ltb (badBit bits) (length bits)) graph (badRow graph g) (badBit bits) (graphNumber graph)
+    row old new)
 
 module _ (σ : Sorts) (graph : Graph) (g bits side ws : List ℕ) where
   -- where the pass stops, the refusal is the same as for the first ill-formed row
@@ -62,7 +63,8 @@ module _ (σ : Sorts) (graph : Graph) (g bits side ws : List ℕ) where
       → outcome ≡ result (rowsAnswer graph g bits (stopRow σ graph (length bits) side g)) (replicate (length ws) 0 ∷ [])
   widths-stop h =
       rw (stop-answer h)
-      (ap (λ (l : List ℕ). result (rowsAnswer graph g bits (stopRow σ graph (length bits) side g)) (l ∷ [])) (lent-rows graph g bits (stopRow σ graph (length bits) side g) h ws (widths σ graph (length bits) side g)))
+      (ap (λ (l : List ℕ). result (rowsAnswer graph g bits (stopRow σ graph (length bits) side g)) (l ∷ []))
+      (lent-rows graph g bits (stopRow σ graph (length bits) side g) h ws (widths σ graph (length bits) side g)))
 
   module _ (all : rowCount graph g ≤ stopRow σ graph (length bits) side g) where
     pub widths-17 : badBit bits < length bits → outcome ≡ result (BadBit (badBit bits) (graphNumber graph)) (replicate (length ws) 0 ∷ [])
@@ -105,7 +107,8 @@ module _ (E : Edition) (graph : Graph) (g bits side ws : List ℕ) where
       widths-28 n stop a e =
           rw (whole, le-ltb _ _ room, e, any-row (sortAnswer E) graph g bits stop (illRow (sortsOf E) graph (length bits) side g) n)
           (ap (λ (l : List ℕ). result (rowsAnswerBy (sortAnswer E) graph g bits (illRow (sortsOf E) graph (length bits) side g)) (l ∷ []))
-          (lent-sort (ltb (badRow graph g) (rowCount graph g)) (ltb (badBit bits) (length bits)) (sortAnswer E) (badRow graph g) (badBit bits) (graphNumber graph)
+          (lent-sort (ltb (badRow graph g) (rowCount graph g)) (ltb (badBit bits) (length bits)) (sortAnswer E) (badRow graph g) (badBit bits)
+          (graphNumber graph)
           _ ws (widths (sortsOf E) graph (length bits) side g) n (sort-zeroes E)))
 
       pub widths-sorted : isAccepted (sortAnswer E) ≡ true → graphWidths E graph g bits side ws ≡ outcome (sortsOf E) graph g bits side ws
@@ -138,7 +141,8 @@ rows-passed sort graph g bits ill e =
     let (formed, _) = unmet (ltb ill (rowCount graph g)) _ _ (ill-refuses graph ill) (accepts-both sort _ h .1) in
     (ltb-false _ _ rows, ltb-false _ _ clean, ltb-false _ _ formed)
 
-pub rows-accepted : (graph : Graph) (g bits : List ℕ) (ill : ℕ) → isAccepted (rowsAnswer graph g bits ill) ≡ true → rowsAnswer graph g bits ill ≡ Accepted
+pub rows-accepted : (graph : Graph) (g bits : List ℕ) (ill : ℕ) → isAccepted (rowsAnswer graph g bits ill) ≡ true
+    → rowsAnswer graph g bits ill ≡ Accepted
 rows-accepted graph g bits ill e =
     let (rows, clean, formed) = rows-passed Accepted graph g bits ill e in rw (le-ltb _ _ rows, le-ltb _ _ clean, le-ltb _ _ formed)
 

@@ -52,7 +52,9 @@ returns-3 c =
     let at-has-shape = else1 .before in
     let s = at-has-shape .before .before .args in
     let book = at-copy-bytes .copy-bytes .ensures .1 (not-false _ (else2 .if2 .left)) ∙ at-given .given .ensures .0 in
-    let words = c .before .words-of .ensures ∙ ap wordsOf (c .before .before .verdict .ensures .0) ∙ ap (λ (x : List ℕ). wordsOf (verdictBy (s .strict) x)) book in
+    let words =
+    c .before .words-of .ensures ∙ ap wordsOf (c .before .before .verdict .ensures .0)
+    ∙ ap (λ (x : List ℕ). wordsOf (verdictBy (s .strict) x)) book in
     λ e. (sym (at-has-shape .has-shape .ensures) ∙ not-false _ (else1 .if1 .left), sym words ∙ c .same-answer .ensures .0 e)
 
 pub book-agrees-spec : {M : Type 1} → statement M

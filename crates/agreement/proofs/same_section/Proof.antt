@@ -25,7 +25,11 @@ returns-2 : tie.Need-returns-2
 returns-2 c =
     let a = c .before .before .before .before .before .before .args in
     let g = c .before .before .before .given .ensures .0 in
-    λ e. (ap length (sym g) ∙ c .before .before .if1 .left, subst (λ (l : List ℕ). SameSection (a .words .now) (a .book .now) (getD l 0 0)) g (c .same-stretch .ensures e))
+    λ e. (
+      ap length (sym g) ∙ c .before .before .if1 .left,
+      subst (λ (l : List ℕ). SameSection (a .words .now) (a .book .now) (getD l 0 0)) g
+          (c .same-stretch .ensures e),
+    )
 
 pub same-section-spec : {M : Type 1} → statement M
 same-section-spec =

@@ -27,7 +27,10 @@ same-bytes-requires c κs = search needs
 returns-2 : tie.Need-returns-2
 returns-2 c =
     let a = c .before .before .before .before in
-    λ e. (sym (a .before .gilfrunt-section-answer .ensures) ∙ a .same-answer .ensures .0 (not-false _ (c .before .before .before .if1 .left)), sym (c .before .before .section .ensures) ∙ c .same-bytes .ensures .0 e ∙ c .before .expected .ensures)
+    λ e. (
+      sym (a .before .gilfrunt-section-answer .ensures) ∙ a .same-answer .ensures .0 (not-false _ (c .before .before .before .if1 .left)),
+      sym (c .before .before .section .ensures) ∙ c .same-bytes .ensures .0 e ∙ c .before .expected .ensures,
+    )
 
 pub same-stretch-spec : {M : Type 1} → statement M
 same-stretch-spec =

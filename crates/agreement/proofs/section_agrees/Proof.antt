@@ -41,8 +41,15 @@ same-section-requires c κs = search needs
 returns-3 : tie.Need-returns-3
 returns-3 c =
     let w = c .before .before .before .before .before .before .before .before .before .before .args .words .now in
-    let book = c .before .before .before .before .copy-bytes .ensures .1 (not-false _ (c .before .before .if2 .left)) ∙ c .before .before .before .before .before .before .given .ensures .0 in
-    λ e. (sym (c .before .before .before .before .before .before .before .before .has-shape .ensures) ∙ not-false _ (c .before .before .before .before .before .before .before .if1 .left), c .same-section .ensures e .0, subst (λ (l : List ℕ). SameSection w l (getD (given w 1) 0 0)) book (c .same-section .ensures e .1))
+    let book =
+    c .before .before .before .before .copy-bytes .ensures .1 (not-false _ (c .before .before .if2 .left))
+    ∙ c .before .before .before .before .before .before .given .ensures .0 in
+    λ e. (
+      sym (c .before .before .before .before .before .before .before .before .has-shape .ensures)
+          ∙ not-false _ (c .before .before .before .before .before .before .before .if1 .left),
+      c .same-section .ensures e .0,
+      subst (λ (l : List ℕ). SameSection w l (getD (given w 1) 0 0)) book (c .same-section .ensures e .1),
+    )
 
 pub section-agrees-spec : {M : Type 1} → statement M
 section-agrees-spec =

@@ -120,7 +120,13 @@ unfolding callMatches all
 returns-5 c =
     let at-entry = c .before .before .before .before in
     let at-class = class-tested at-entry in
-    rw (image-var (image-tested at-class), class-call at-class, le-leb _ _ (entry-in at-entry), eq-eqb _ _ (c .before .before .if4 .left), ne-eqb _ _ (c .if5 .taken))
+    rw (
+      image-var (image-tested at-class),
+      class-call at-class,
+      le-leb _ _ (entry-in at-entry),
+      eq-eqb _ _ (c .before .before .if4 .left),
+      ne-eqb _ _ (c .if5 .taken),
+    )
 
 add-cs : tie.Need-add-cs
 add-cs c = omega (arith, entry-in (entry-tested c))
@@ -140,7 +146,14 @@ returns-6 c =
     let at-count = c .before .before .before in
     let at-entry = entry-tested at-count in
     let at-class = class-tested at-entry in
-    rw (image-var (image-tested at-class), class-call at-class, le-leb _ _ (entry-in at-entry), eq-eqb _ _ (at-count .before .before .if4 .left), eq-eqb _ _ (at-count .if5 .left), tested-no _ _ (c .before .within2 .ensures) (c .if6 .taken))
+    rw (
+      image-var (image-tested at-class),
+      class-call at-class,
+      le-leb _ _ (entry-in at-entry),
+      eq-eqb _ _ (at-count .before .before .if4 .left),
+      eq-eqb _ _ (at-count .if5 .left),
+      tested-no _ _ (c .before .within2 .ensures) (c .if6 .taken),
+    )
 
 array-read-args-match : tie.Need-array-read-args-match
 array-read-args-match c = search needs
@@ -157,7 +170,16 @@ returns-7 c =
     let at-count = c .before .before .before .before in
     let at-entry = entry-tested at-count in
     let at-class = class-tested at-entry in
-    rw (image-var (image-tested at-class), class-call at-class, le-leb _ _ (entry-in at-entry), eq-eqb _ _ (at-count .before .before .if4 .left), eq-eqb _ _ (at-count .if5 .left), tested-yes _ _ (c .before .before .within2 .ensures) (c .before .if6 .left), c .args-match .ensures) (last-test _)
+    rw (
+      image-var (image-tested at-class),
+      class-call at-class,
+      le-leb _ _ (entry-in at-entry),
+      eq-eqb _ _ (at-count .before .before .if4 .left),
+      eq-eqb _ _ (at-count .if5 .left),
+      tested-yes _ _ (c .before .before .within2 .ensures) (c .before .if6 .left),
+      c .args-match .ensures,
+    )
+    (last-test _)
 
 pub call-ok-spec : {M : Type 1} → statement M
 call-ok-spec =

@@ -31,7 +31,8 @@ returns-2 : tie.Need-returns-2
 returns-2 c =
     let h : c .before .before .args .b % c .before .before .args .w ≤ c .before .before .args .w =
     omega (arith, mod-lt (c .before .before .args .b) (c .before .before .pre .0)) in
-    rw (c .low .ensures) (rotr-word (c .before .before .args .w) _ (c .before .before .args .a) h (c .before .before .pre .1) (c .before .before .pre .2))
+    rw (c .low .ensures) (rotr-word (c .before .before .args .w) _ (c .before .before .args .a) h (c .before .before .pre .1)
+    (c .before .before .pre .2))
 
 pub bv-rotr-spec : {M : Type 1} → statement M
 bv-rotr-spec = tie.close (tie.spec rem-k returns sub-j low-requires shl-result shr-result returns-2)

@@ -34,7 +34,8 @@ offset-requires c κs =
     (omega (arith, c .sections .ensures), s .pre .0)
 
 -- all words are counted
-counted : (c : tie.After-offset) → (let b = c .before .before .before .before .before .before .args .book .now in c .offset .result ≡ length (loaded b (sections b)))
+counted : (c : tie.After-offset)
+    → (let b = c .before .before .before .before .before .before .args .book .now in c .offset .result ≡ length (loaded b (sections b)))
 counted c =
     let b = c .before .before .before .before .before .before .args .book .now in
     c .offset .ensures ∙ ap (λ (n : ℕ). length (loaded b n)) (c .before .sections .ensures)

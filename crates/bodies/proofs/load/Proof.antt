@@ -13,7 +13,8 @@ use Rattle.bodies.proofs.load.Statement.{statement}
 use Rattle.bodies.proofs.load.Tie as tie
 
 abbrev Inv-loop : tie.InvT-loop
-Inv-loop book words₀ n at₀ i₀ words at i = (i ≤ sections book) × (at ≡ length (loaded book i)) × (length words ≡ length words₀) × (words ≡ filled book words₀ i)
+Inv-loop book words₀ n at₀ i₀ words at i =
+    (i ≤ sections book) × (at ≡ length (loaded book i)) × (length words ≡ length words₀) × (words ≡ filled book words₀ i)
 
 abbrev μ-loop : tie.MeasureT-loop
 μ-loop book words₀ n at₀ i₀ words at i = n - i
@@ -28,7 +29,13 @@ loop-holds c =
 
 -- within the loop section i + 1 is one of the book's
 inside : (c : tie.In-loop Inv-loop μ-loop) → c .before .loop .i < sections (c .before .before .before .before .before .args .book .now)
-inside c = omega (arith, c .loop-test .taken, c .before .before .sections .ensures, sections-low (c .before .before .before .before .before .args .book .now))
+inside c =
+    omega (
+      arith,
+      c .loop-test .taken,
+      c .before .before .sections .ensures,
+      sections-low (c .before .before .before .before .before .args .book .now),
+    )
 
 load-section-requires : tie.Need-load-section-requires Inv-loop μ-loop
 load-section-requires c κs =
@@ -36,7 +43,8 @@ load-section-requires c κs =
     let s = t .before .before .before .before .before in
     let l = t .before .loop in
     let b = s .args .book .now in
-    let h : length (loaded b (l .i)) + length (listOf b (l .i)) ≤ length (l .words) = omega (arith, loaded-below b (sections b) (l .i) (inside t), s .pre .1, l .inv .2) in
+    let h : length (loaded b (l .i)) + length (listOf b (l .i)) ≤ length (l .words) =
+    omega (arith, loaded-below b (sections b) (l .i) (inside t), s .pre .1, l .inv .2) in
     ((inside t, s .pre .0, l .inv .1), h)
 
 word-count-requires : tie.Need-word-count-requires Inv-loop μ-loop
@@ -47,7 +55,8 @@ word-count-requires c κs =
 -- the sum is that of one section more, and within the book
 counted : (c : tie.After-word-count Inv-loop μ-loop)
     → (let t = c .before .before .before .before .before in
-    t .before .loop .at + c .word-count .result ≡ length (loaded (t .before .before .before .before .before .args .book .now) (t .before .loop .i + 1)))
+    t .before .loop .at + c .word-count .result ≡ length (loaded (t .before .before .before .before .before .args .book .now)
+    (t .before .loop .i + 1)))
 counted c =
     let t = c .before .before .before .before .before in
     offset-more (t .before .before .before .before .before .args .book .now) _ _ _ (t .before .loop .inv .1) (c .word-count .ensures)
@@ -57,7 +66,8 @@ add-at c =
     let t = c .before .before .before .before .before in
     let s = t .before .before .before .before .before in
     let l = t .before .loop in
-    let h : length (loaded (s .args .book .now) (l .i + 1)) ≤ length (s .args .book .now) = loaded-fits (s .args .book .now) (s .pre .0) (l .i + 1) (omega (arith, inside t)) in
+    let h : length (loaded (s .args .book .now) (l .i + 1)) ≤ length (s .args .book .now) =
+    loaded-fits (s .args .book .now) (s .pre .0) (l .i + 1) (omega (arith, inside t)) in
     let m : l .at + c .word-count .result ≤ length (s .args .book .now) = omega (arith, h, counted c) in
     search needs
 
@@ -74,8 +84,12 @@ loop-again c =
     let k = c .before .before .before in
     let t = k .before .before in
     let s = t .before .before .before .before .before in
-    let l = t .before .loop in
-    (omega (arith, inside t), counted c, k .load-section .kept .1 .1 .1 .0 ∙ l .inv .2, filled-more (s .args .book .now) (s .args .words .now) (l .i) (l .words) _ (l .inv .3) (k .load-section .ensures))
+    let l = t .before .loop in (
+      omega (arith, inside t),
+      counted c,
+      k .load-section .kept .1 .1 .1 .0 ∙ l .inv .2,
+      filled-more (s .args .book .now) (s .args .words .now) (l .i) (l .words) _ (l .inv .3) (k .load-section .ensures),
+    )
 
 same-length : tie.Need-same-length Inv-loop μ-loop
 same-length c = search needs
@@ -83,7 +97,8 @@ same-length c = search needs
 returns : tie.Need-returns Inv-loop μ-loop
 returns c =
     let k = c .before .before in
-    let e : c .before .loop .i ≡ sections (k .before .before .before .args .book .now) = omega (arith, c .before .loop .inv .0, c .loop-test .left, k .sections .ensures) in
+    let e : c .before .loop .i ≡ sections (k .before .before .before .args .book .now) =
+    omega (arith, c .before .loop .inv .0, c .loop-test .left, k .sections .ensures) in
     rw e at (c .before .loop .inv .3)
 
 pub load-spec : {M : Type 1} → statement M

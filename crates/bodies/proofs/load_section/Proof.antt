@@ -32,7 +32,8 @@ read-words-requires : tie.Need-read-words-requires
 read-words-requires c κs =
     let t = c .before .before in
     let s = t .before .before .before .before in
-    words-room (s .args .book .now) (s .args .i) (s .args .words .now) (s .pre .0 .1) (s .pre .0 .0) (s .pre .1) _ (s .pre .0 .2) _ (c .before .body .ensures) (sym (t .before .is-bits .ensures) ∙ t .if1 .left)
+    words-room (s .args .book .now) (s .args .i) (s .args .words .now) (s .pre .0 .1) (s .pre .0 .0) (s .pre .1) _ (s .pre .0 .2) _
+    (c .before .body .ensures) (sym (t .before .is-bits .ensures) ∙ t .if1 .left)
 
 same-length : tie.Need-same-length
 same-length c = search needs
@@ -42,7 +43,8 @@ returns-2 c =
     let b = c .before .before .before .before in
     let t = b .before in
     let s = t .before .before .before .before in
-    words-joined (s .args .book .now) (s .args .i) (s .args .words .now) (s .pre .0 .1) (s .pre .0 .0) (s .pre .1) _ (s .pre .0 .2) _ (b .body .ensures) (sym (t .before .is-bits .ensures) ∙ t .if1 .left) _ (c .before .before .read-words .ensures)
+    words-joined (s .args .book .now) (s .args .i) (s .args .words .now) (s .pre .0 .1) (s .pre .0 .0) (s .pre .1) _ (s .pre .0 .2) _
+    (b .body .ensures) (sym (t .before .is-bits .ensures) ∙ t .if1 .left) _ (c .before .before .read-words .ensures)
 
 pub load-section-spec : {M : Type 1} → statement M
 load-section-spec =

@@ -25,8 +25,10 @@ add-at : tie.Need-add-at Inv-loop μ-loop
 add-at c =
     let s = c .before .before .before .before in
     let l = c .before .before .loop in
-    let e : l .at + c .word-count .result ≡ length (loaded (s .args .book .now) (l .k + 1)) = offset-more (s .args .book .now) _ _ _ (l .inv .1) (c .word-count .ensures) in
-    let h : length (loaded (s .args .book .now) (l .k + 1)) ≤ length (s .args .book .now) = loaded-fits (s .args .book .now) (s .pre .1) (l .k + 1) (omega (arith, s .pre .0, c .before .loop-test .taken)) in
+    let e : l .at + c .word-count .result ≡ length (loaded (s .args .book .now) (l .k + 1)) =
+    offset-more (s .args .book .now) _ _ _ (l .inv .1) (c .word-count .ensures) in
+    let h : length (loaded (s .args .book .now) (l .k + 1)) ≤ length (s .args .book .now) =
+    loaded-fits (s .args .book .now) (s .pre .1) (l .k + 1) (omega (arith, s .pre .0, c .before .loop-test .taken)) in
     let m : l .at + c .word-count .result ≤ length (s .args .book .now) = omega arith in
     search needs
 
@@ -37,7 +39,8 @@ loop-less : tie.Need-loop-less Inv-loop μ-loop
 loop-less c = search needs
 
 loop-again : tie.Need-loop-again Inv-loop μ-loop
-loop-again c = (search needs, offset-more (c .before .before .before .before .args .book .now) _ _ _ (c .before .before .loop .inv .1) (c .word-count .ensures))
+loop-again c =
+    (search needs, offset-more (c .before .before .before .before .args .book .now) _ _ _ (c .before .before .loop .inv .1) (c .word-count .ensures))
 
 returns : tie.Need-returns Inv-loop μ-loop
 returns c =

@@ -46,7 +46,9 @@ same-length : tie.Need-same-length Inv-loop μ-loop
 same-length c = search needs
 
 returns : tie.Need-returns Inv-loop μ-loop
-returns c = read-all (c .before .before .before .before .args .bytes .now) (c .before .before .before .before .args .out .now) _ _ _ refl (c .before .loop .inv .0) (c .loop-test .left) (c .before .loop .inv .2)
+returns c =
+    read-all (c .before .before .before .before .args .bytes .now) (c .before .before .before .before .args .out .now) _ _ _ refl
+    (c .before .loop .inv .0) (c .loop-test .left) (c .before .loop .inv .2)
 
 pub read-words-spec : {M : Type 1} → statement M
 read-words-spec =

@@ -15,12 +15,14 @@ returns : tie.Need-returns
 returns c = let t : isBits (c .before .before .before .args .i) ≡ true = sym (c .before .is-bits .ensures) ∙ c .if1 .taken in rw t
 
 length-of-requires : tie.Need-length-of-requires
-length-of-requires c κs = (c .before .before .before .pre .0, good-book (c .before .before .before .args .book .now) (c .before .before .before .pre .1) .long)
+length-of-requires c κs =
+    (c .before .before .before .pre .0, good-book (c .before .before .before .args .book .now) (c .before .before .before .pre .1) .long)
 
 returns-2 : tie.Need-returns-2
 returns-2 c =
     let s = c .before .before .before .before in
-    rw (c .length-of .ensures) (sym (words-count (s .args .book .now) (s .pre .1) (s .args .i) (s .pre .0) (sym (c .before .before .is-bits .ensures) ∙ c .before .if1 .left)))
+    rw (c .length-of .ensures) (sym (words-count (s .args .book .now) (s .pre .1) (s .args .i) (s .pre .0)
+    (sym (c .before .before .is-bits .ensures) ∙ c .before .if1 .left)))
 
 pub word-count-spec : {M : Type 1} → statement M
 word-count-spec = tie.close (tie.spec is-bits-requires returns length-of-requires returns-2)

@@ -29,7 +29,8 @@ returns-2 : tie.Need-returns-2
 returns-2 c =
     let p = c .before .before .before in
     let s = p .before .before .before in
-    bad-end (s .args .book .now) (s .args .i) _ _ (p .before .start-of .ensures) (s .pre .1) (starts p) _ (c .before .before .length-of .ensures) (sym (c .if2 .taken) ∙ c .before .runs-past .ensures)
+    bad-end (s .args .book .now) (s .args .i) _ _ (p .before .start-of .ensures) (s .pre .1) (starts p) _ (c .before .before .length-of .ensures)
+    (sym (c .if2 .taken) ∙ c .before .runs-past .ensures)
 
 is-bits-requires : tie.Need-is-bits-requires
 is-bits-requires c κs = search needs
@@ -39,14 +40,16 @@ returns-3 c =
     let q = c .before .before in
     let p = q .before .before .before in
     let s = p .before .before .before in
-    bits-good (s .args .book .now) (s .args .i) _ _ (p .before .start-of .ensures) (s .pre .1) (starts p) _ (q .before .before .length-of .ensures) (sym (q .if2 .left) ∙ q .before .runs-past .ensures) (sym (c .if3 .taken) ∙ c .before .is-bits .ensures)
+    bits-good (s .args .book .now) (s .args .i) _ _ (p .before .start-of .ensures) (s .pre .1) (starts p) _ (q .before .before .length-of .ensures)
+    (sym (q .if2 .left) ∙ q .before .runs-past .ensures) (sym (c .if3 .taken) ∙ c .before .is-bits .ensures)
 
 returns-4 : tie.Need-returns-4
 returns-4 c =
     let q = c .before .before in
     let p = q .before .before .before in
     let s = p .before .before .before in
-    words-good (s .args .book .now) (s .args .i) _ _ (p .before .start-of .ensures) (s .pre .1) (starts p) _ (q .before .before .length-of .ensures) (sym (q .if2 .left) ∙ q .before .runs-past .ensures) (sym (c .if3 .left) ∙ c .before .is-bits .ensures)
+    words-good (s .args .book .now) (s .args .i) _ _ (p .before .start-of .ensures) (s .pre .1) (starts p) _ (q .before .before .length-of .ensures)
+    (sym (q .if2 .left) ∙ q .before .runs-past .ensures) (sym (c .if3 .left) ∙ c .before .is-bits .ensures)
 
 pub bad-section-spec : {M : Type 1} → statement M
 bad-section-spec =

@@ -10,7 +10,9 @@ start-of-requires : tie.Need-start-of-requires
 start-of-requires c κs = (c .before .pre .0, good-book (c .before .args .book .now) (c .before .pre .1) .long)
 
 end-of-requires : tie.Need-end-of-requires
-end-of-requires c κs = let g = good-book (c .before .before .args .book .now) (c .before .before .pre .1) in ((c .before .before .pre .0, g .long), g .each _ (c .before .before .pre .0) .within)
+end-of-requires c κs =
+    let g = good-book (c .before .before .args .book .now) (c .before .before .pre .1) in
+    ((c .before .before .pre .0, g .long), g .each _ (c .before .before .pre .0) .within)
 
 sub-result : tie.Need-sub-result
 sub-result c = search needs
@@ -21,7 +23,8 @@ part-result-start c = search needs
 part-result-end : tie.Need-part-result-end
 part-result-end c =
     let b = c .before .before .before .args .book .now in
-    let h : c .end-of .result ≤ length b = rw (c .end-of .ensures) (good-book b (c .before .before .before .pre .1) .each _ (c .before .before .before .pre .0) .within) in
+    let h : c .end-of .result ≤ length b =
+    rw (c .end-of .ensures) (good-book b (c .before .before .before .pre .1) .each _ (c .before .before .before .pre .0) .within) in
     h
 
 returns : tie.Need-returns

@@ -44,7 +44,8 @@ add-t8 c =
 returns-3 : tie.Need-returns-3
 returns-3 c =
     let t = c .before .before in
-    off-place (t .before .before .before .before .args .book .now) (long t) _ (t .before .sections .ensures) _ (c .before .first-bad .ensures) (c .if3 .taken)
+    off-place (t .before .before .before .before .args .book .now) (long t) _ (t .before .sections .ensures) _ (c .before .first-bad .ensures)
+    (c .if3 .taken)
 
 sub-end-of : tie.Need-sub-end-of
 sub-end-of c =
@@ -54,26 +55,31 @@ sub-end-of c =
 end-of-requires : tie.Need-end-of-requires
 end-of-requires c κs =
     let t = c .before .before in
-    let b = t .before .before .before .before .args .book .now in
-    ((omega (arith, sections-low b, t .before .sections .ensures), long t), last-within b (long t) _ (t .before .sections .ensures) _ (c .before .first-bad .ensures) (c .if3 .left))
+    let b = t .before .before .before .before .args .book .now in (
+      (omega (arith, sections-low b, t .before .sections .ensures), long t),
+      last-within b (long t) _ (t .before .sections .ensures) _ (c .before .first-bad .ensures) (c .if3 .left),
+    )
 
 returns-4 : tie.Need-returns-4
 returns-4 c =
     let p = c .before .before in
     let t = p .before .before in
-    good-shape (t .before .before .before .before .args .book .now) (long t) _ (t .before .sections .ensures) _ (p .before .first-bad .ensures) (p .if3 .left) _ (c .before .end-of .ensures) (c .if4 .taken)
+    good-shape (t .before .before .before .before .args .book .now) (long t) _ (t .before .sections .ensures) _ (p .before .first-bad .ensures)
+    (p .if3 .left) _ (c .before .end-of .ensures) (c .if4 .taken)
 
 returns-5 : tie.Need-returns-5
 returns-5 c =
     let p = c .before .before .before in
     let t = p .before .before in
-    over-second (t .before .before .before .before .args .book .now) (long t) _ (t .before .sections .ensures) _ (p .before .first-bad .ensures) (p .if3 .left) _ (c .before .before .end-of .ensures) (c .before .if4 .left) (c .if5 .taken)
+    over-second (t .before .before .before .before .args .book .now) (long t) _ (t .before .sections .ensures) _ (p .before .first-bad .ensures)
+    (p .if3 .left) _ (c .before .before .end-of .ensures) (c .before .if4 .left) (c .if5 .taken)
 
 returns-6 : tie.Need-returns-6
 returns-6 c =
     let p = c .before .before .before in
     let t = p .before .before in
-    over-first (t .before .before .before .before .args .book .now) (long t) _ (t .before .sections .ensures) _ (p .before .first-bad .ensures) (p .if3 .left) _ (c .before .before .end-of .ensures) (c .before .if4 .left) (c .if5 .left)
+    over-first (t .before .before .before .before .args .book .now) (long t) _ (t .before .sections .ensures) _ (p .before .first-bad .ensures)
+    (p .if3 .left) _ (c .before .before .end-of .ensures) (c .before .if4 .left) (c .if5 .left)
 
 pub book-answer-spec : {M : Type 1} → statement M
 book-answer-spec =

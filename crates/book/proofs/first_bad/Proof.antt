@@ -38,12 +38,15 @@ returns : tie.Need-returns Inv-loop μ-loop
 returns c =
     let s = c .before .before .before .before .before in
     let h : c .before .before .before .loop .i < sections (s .args .book .now) = omega (arith, c .before .before .loop-test .taken, s .pre .0) in
-    sym (first-at (badSection (s .args .book .now)) _ _ h (sym (c .before .bad-section .ensures) ∙ c .if1 .taken) (c .before .before .before .loop .inv .2))
+    sym (first-at (badSection (s .args .book .now)) _ _ h (sym (c .before .bad-section .ensures) ∙ c .if1 .taken)
+    (c .before .before .before .loop .inv .2))
 
 end-of-requires : tie.Need-end-of-requires Inv-loop μ-loop
 end-of-requires c κs =
-    let s = c .before .before .before .before .before in
-    ((omega (arith, c .before .before .loop-test .taken, s .pre .0), s .pre .1), good-section (s .args .book .now) (c .before .before .before .loop .i) (sym (c .before .bad-section .ensures) ∙ c .if1 .left) .within)
+    let s = c .before .before .before .before .before in (
+      (omega (arith, c .before .before .loop-test .taken, s .pre .0), s .pre .1),
+      good-section (s .args .book .now) (c .before .before .before .loop .i) (sym (c .before .bad-section .ensures) ∙ c .if1 .left) .within,
+    )
 
 add-i : tie.Need-add-i Inv-loop μ-loop
 add-i c = search needs
@@ -52,7 +55,12 @@ loop-less : tie.Need-loop-less Inv-loop μ-loop
 loop-less c = search needs
 
 loop-again : tie.Need-loop-again Inv-loop μ-loop
-loop-again c = (search needs, rw add-one (c .end-of .ensures), below-more _ _ (c .before .before .before .before .loop .inv .2) (sym (c .before .before .bad-section .ensures) ∙ c .before .if1 .left))
+loop-again c = (
+  search needs,
+  rw add-one (c .end-of .ensures),
+  below-more _ _ (c .before .before .before .before .loop .inv .2)
+      (sym (c .before .before .bad-section .ensures) ∙ c .before .if1 .left),
+)
 
 returns-2 : tie.Need-returns-2 Inv-loop μ-loop
 returns-2 c =

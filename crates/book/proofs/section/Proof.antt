@@ -27,24 +27,31 @@ part-result-end c = search needs
 returns : tie.Need-returns
 returns c =
     let a = c .before .before .before .before .before .args in
-    let e : isAccepted (sectionAnswer (a .book .now) (a .number)) ≡ false = rw (c .before .before .before .section-answer .ensures) at (sym (c .before .before .is-accepted .ensures) ∙ not-true _ (c .before .if1 .taken)) in
+    let e : isAccepted (sectionAnswer (a .book .now) (a .number)) ≡ false =
+    rw (c .before .before .before .section-answer .ensures) at (sym (c .before .before .is-accepted .ensures)
+    ∙ not-true _ (c .before .if1 .taken)) in
     rw e
 
 sub-body : tie.Need-sub-body
 sub-body c =
     let a = c .before .before .before .before .args in
-    numbered (a .book .now) (a .number) (rw (c .before .before .section-answer .ensures) at (sym (c .before .is-accepted .ensures) ∙ not-false _ (c .if1 .left))) .low
+    numbered (a .book .now) (a .number) (rw (c .before .before .section-answer .ensures) at (sym (c .before .is-accepted .ensures)
+    ∙ not-false _ (c .if1 .left))) .low
 
 body-requires : tie.Need-body-requires
 body-requires c κs =
     let a = c .before .before .before .before .args in
-    let n = numbered (a .book .now) (a .number) (rw (c .before .before .section-answer .ensures) at (sym (c .before .is-accepted .ensures) ∙ not-false _ (c .if1 .left))) in
+    let n =
+    numbered (a .book .now) (a .number) (rw (c .before .before .section-answer .ensures) at (sym (c .before .is-accepted .ensures)
+    ∙ not-false _ (c .if1 .left))) in
     (n .high, n .shape)
 
 returns-2 : tie.Need-returns-2
 returns-2 c =
     let a = c .before .before .before .before .before .args in
-    let e : isAccepted (sectionAnswer (a .book .now) (a .number)) ≡ true = rw (c .before .before .before .section-answer .ensures) at (sym (c .before .before .is-accepted .ensures) ∙ not-false _ (c .before .if1 .left)) in
+    let e : isAccepted (sectionAnswer (a .book .now) (a .number)) ≡ true =
+    rw (c .before .before .before .section-answer .ensures) at (sym (c .before .before .is-accepted .ensures)
+    ∙ not-false _ (c .before .if1 .left)) in
     rw e (c .body .ensures)
 
 pub section-spec : {M : Type 1} → statement M

@@ -18,30 +18,38 @@ is-accepted-requires c κs = search needs
 returns : tie.Need-returns
 returns c =
     let a = c .before .before .before .before .args in
-    let e : isAccepted (sectionAnswer (a .book .now) (a .number)) ≡ false = rw (c .before .before .section-answer .ensures) at (sym (c .before .is-accepted .ensures) ∙ not-true _ (c .if1 .taken)) in
+    let e : isAccepted (sectionAnswer (a .book .now) (a .number)) ≡ false =
+    rw (c .before .before .section-answer .ensures) at (sym (c .before .is-accepted .ensures) ∙ not-true _ (c .if1 .taken)) in
     rw e
 
 sub-i : tie.Need-sub-i
 sub-i c =
     let a = c .before .before .before .before .args in
-    numbered (a .book .now) (a .number) (rw (c .before .before .section-answer .ensures) at (sym (c .before .is-accepted .ensures) ∙ not-false _ (c .if1 .left))) .low
+    numbered (a .book .now) (a .number) (rw (c .before .before .section-answer .ensures) at (sym (c .before .is-accepted .ensures)
+    ∙ not-false _ (c .if1 .left))) .low
 
 start-of-requires : tie.Need-start-of-requires
 start-of-requires c κs =
     let a = c .before .before .before .before .args in
-    let n = numbered (a .book .now) (a .number) (rw (c .before .before .section-answer .ensures) at (sym (c .before .is-accepted .ensures) ∙ not-false _ (c .if1 .left))) in
+    let n =
+    numbered (a .book .now) (a .number) (rw (c .before .before .section-answer .ensures) at (sym (c .before .is-accepted .ensures)
+    ∙ not-false _ (c .if1 .left))) in
     (n .high, good-book (a .book .now) (n .shape) .long)
 
 length-of-requires : tie.Need-length-of-requires
 length-of-requires c κs =
     let a = c .before .before .before .before .before .args in
-    let n = numbered (a .book .now) (a .number) (rw (c .before .before .before .section-answer .ensures) at (sym (c .before .before .is-accepted .ensures) ∙ not-false _ (c .before .if1 .left))) in
+    let n =
+    numbered (a .book .now) (a .number) (rw (c .before .before .before .section-answer .ensures) at (sym (c .before .before .is-accepted .ensures)
+    ∙ not-false _ (c .before .if1 .left))) in
     (n .high, good-book (a .book .now) (n .shape) .long)
 
 returns-2 : tie.Need-returns-2
 returns-2 c =
     let a = c .before .before .before .before .before .before .args in
-    let e : isAccepted (sectionAnswer (a .book .now) (a .number)) ≡ true = rw (c .before .before .before .before .section-answer .ensures) at (sym (c .before .before .before .is-accepted .ensures) ∙ not-false _ (c .before .before .if1 .left)) in
+    let e : isAccepted (sectionAnswer (a .book .now) (a .number)) ≡ true =
+    rw (c .before .before .before .before .section-answer .ensures) at (sym (c .before .before .before .is-accepted .ensures)
+    ∙ not-false _ (c .before .before .if1 .left)) in
     rw (e, c .before .start-of .ensures, c .length-of .ensures)
 
 pub section-place-spec : {M : Type 1} → statement M

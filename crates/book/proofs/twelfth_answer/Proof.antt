@@ -23,13 +23,15 @@ returns-2 : tie.Need-returns-2
 returns-2 c =
     let t = c .before .before in
     let s = t .before .before .before in
-    twelfth-given (s .args .book .now) _ (s .pre) (sym (t .before .is-accepted .ensures) ∙ not-false _ (t .if1 .left)) (sym (c .before .is-second .ensures) ∙ c .if2 .taken)
+    twelfth-given (s .args .book .now) _ (s .pre) (sym (t .before .is-accepted .ensures) ∙ not-false _ (t .if1 .left))
+    (sym (c .before .is-second .ensures) ∙ c .if2 .taken)
 
 returns-3 : tie.Need-returns-3
 returns-3 c =
     let t = c .before .before in
     let s = t .before .before .before in
-    twelfth-lacking (s .args .book .now) _ (s .pre) (sym (t .before .is-accepted .ensures) ∙ not-false _ (t .if1 .left)) (sym (c .before .is-second .ensures) ∙ c .if2 .left)
+    twelfth-lacking (s .args .book .now) _ (s .pre) (sym (t .before .is-accepted .ensures) ∙ not-false _ (t .if1 .left))
+    (sym (c .before .is-second .ensures) ∙ c .if2 .left)
 
 pub twelfth-answer-spec : {M : Type 1} → statement M
 twelfth-answer-spec = tie.close (tie.spec is-accepted-requires returns is-second-requires returns-2 returns-3)

@@ -11,7 +11,8 @@ use Rattle.cases.proofs.after_lists.Statement.{statement}
 use Rattle.cases.proofs.after_lists.Tie as tie
 
 abbrev Inv-loop : tie.InvT-loop
-Inv-loop words from lists at₀ k₀ at k = (k ≤ lists) × (afterLists words from lists ≡ afterLists words at (lists - k)) × (at ≤ max from (length words + 1))
+Inv-loop words from lists at₀ k₀ at k =
+    (k ≤ lists) × (afterLists words from lists ≡ afterLists words at (lists - k)) × (at ≤ max from (length words + 1))
 
 abbrev μ-loop : tie.MeasureT-loop
 μ-loop words from lists at₀ k₀ at k = lists - k
@@ -34,7 +35,8 @@ loop-again c =
     let a = c .before .before .before .before .args in
     let h : l .k < a .lists = omega arith in
     let e : afterLists (a .words .now) (a .from) (a .lists) ≡ afterLists (a .words .now) (c .after-list .result) (a .lists - (l .k + 1)) =
-    l .inv .1 ∙ lists-more (a .words .now) (l .at) (a .lists) (l .k) h ∙ ap (λ (p : ℕ). afterLists (a .words .now) p (a .lists - (l .k + 1))) (sym (c .after-list .ensures .0)) in
+    l .inv .1 ∙ lists-more (a .words .now) (l .at) (a .lists) (l .k) h
+    ∙ ap (λ (p : ℕ). afterLists (a .words .now) p (a .lists - (l .k + 1))) (sym (c .after-list .ensures .0)) in
     (omega arith, e, omega arith)
 
 returns : tie.Need-returns Inv-loop μ-loop

@@ -14,7 +14,8 @@ use Rattle.chains.proofs.chain_walk.Statement.{statement}
 use Rattle.chains.proofs.chain_walk.Tie as tie
 
 abbrev Inv-pairs : tie.InvT-pairs
-Inv-pairs source ebits eside map target j k s r q b row₀ l₀ row l = (l ≤ k) × (walk (sourceGraph source ebits eside) map target j k s r ≡ walk (sourceGraph source ebits eside) map target j (k - l) (s + 2 * l) row)
+Inv-pairs source ebits eside map target j k s r q b row₀ l₀ row l =
+    (l ≤ k) × (walk (sourceGraph source ebits eside) map target j k s r ≡ walk (sourceGraph source ebits eside) map target j (k - l) (s + 2 * l) row)
 
 abbrev μ-pairs : tie.MeasureT-pairs
 μ-pairs source ebits eside map target j k s r q b row₀ l₀ row l = k - l
@@ -33,10 +34,12 @@ pairs-holds : tie.Need-pairs-holds Inv-pairs μ-pairs
 pairs-holds c = (omega arith, rw (add-zero, sub-zero))
 
 mul-at : tie.Need-mul-at Inv-pairs μ-pairs
-mul-at c = let h = c .before .before .before .before .before .before .before .before .before .before .pre .1 .0 _ (c .if2 .left) in omega (arith, h .0)
+mul-at c =
+    let h = c .before .before .before .before .before .before .before .before .before .before .pre .1 .0 _ (c .if2 .left) in omega (arith, h .0)
 
 add-at : tie.Need-add-at Inv-pairs μ-pairs
-add-at c = let h = c .before .before .before .before .before .before .before .before .before .before .pre .1 .0 _ (c .if2 .left) in omega (arith, h .0)
+add-at c =
+    let h = c .before .before .before .before .before .before .before .before .before .before .pre .1 .0 _ (c .if2 .left) in omega (arith, h .0)
 
 pair-step-requires : tie.Need-pair-step-requires Inv-pairs μ-pairs
 pair-step-requires c κs =
@@ -59,8 +62,13 @@ pairs-again c =
     let at-start = at-row .before .before .before .before .before .before .before in
     let s = at-start .args in
     let w = along (sourceGraph (s .source .now) (s .ebits .now) (s .eside .now)) (s .map .now) (s .target .now) (s .j) in
-    let l = c .before .before .before .before .before .pairs in
-    (omega arith, l .inv .1 ∙ walk-step _ _ _ _ (s .k) (s .s) (l .l) (l .row) (c .before .before .before .before .if2 .left) ∙ ap (λ (z : Walk). onward z (w (s .k - (l .l + 1)) (s .s + 2 * (l .l + 1)))) (sym (rw (at-row .row .ensures, at-map-at .map-at .ensures) at (c .before .before .before .pair-step .ensures)) ∙ c .before .step .given .1))
+    let l = c .before .before .before .before .before .pairs in (
+      omega arith,
+      l .inv .1 ∙ walk-step _ _ _ _ (s .k) (s .s) (l .l) (l .row) (c .before .before .before .before .if2 .left)
+          ∙ ap (λ (z : Walk). onward z (w (s .k - (l .l + 1)) (s .s + 2 * (l .l + 1))))
+          (sym (rw (at-row .row .ensures, at-map-at .map-at .ensures) at (c .before .before .before .pair-step .ensures))
+          ∙ c .before .step .given .1),
+    )
 
 returns-2 : tie.Need-returns-2 Inv-pairs μ-pairs
 returns-2 c =
@@ -75,7 +83,13 @@ returns-3 c =
     let s = at-start .args in
     let w = along (sourceGraph (s .source .now) (s .ebits .now) (s .eside .now)) (s .map .now) (s .target .now) (s .j) in
     let l = c .before .before .before .pairs in
-    sym (l .inv .1 ∙ walk-step _ _ _ _ (s .k) (s .s) (l .l) (l .row) (c .before .before .if2 .left) ∙ ap (λ (z : Walk). onward z (w (s .k - (l .l + 1)) (s .s + 2 * (l .l + 1)))) (sym (rw (c .before .before .before .before .before .row .ensures, c .before .before .before .before .map-at .ensures) at (c .before .pair-step .ensures))) ∙ onward-stays _ _ (λ z e. ⊎-elim (λ h. omega arith) (λ h. omega arith) (rw e at (c .match .keys2))))
+    sym (l .inv .1 ∙ walk-step _ _ _ _ (s .k) (s .s) (l .l) (l .row) (c .before .before .if2 .left)
+    ∙ ap (λ (z : Walk). onward z (w (s .k - (l .l + 1)) (s .s + 2 * (l .l + 1))))
+    (sym (rw (
+      c .before .before .before .before .before .row .ensures,
+      c .before .before .before .before .map-at .ensures,
+    ) at (c .before .pair-step .ensures)))
+    ∙ onward-stays _ _ (λ z e. ⊎-elim (λ h. omega arith) (λ h. omega arith) (rw e at (c .match .keys2))))
 
 pub chain-walk-spec : {M : Type 1} → statement M
 chain-walk-spec =

@@ -22,14 +22,23 @@ array-read-if2 c = search needs
 
 returns-2 : tie.Need-returns-2
 unfolding isLevel all
-returns-2 c = rw (lt-ltb _ _ (rw (c .before .before .before .row-count .ensures) at (c .before .before .if1 .left)), ne-eqb _ _ (rw (c .before .row .ensures) at (c .if2 .taken)))
+returns-2 c =
+    rw (
+      lt-ltb _ _ (rw (c .before .before .before .row-count .ensures) at (c .before .before .if1 .left)),
+      ne-eqb _ _ (rw (c .before .row .ensures) at (c .if2 .taken)),
+    )
 
 array-read-if3 : tie.Need-array-read-if3
 array-read-if3 c = search needs
 
 returns-3 : tie.Need-returns-3
 unfolding isLevel all
-returns-3 c = rw (lt-ltb _ _ (rw (c .before .before .before .before .row-count .ensures) at (c .before .before .before .if1 .left)), eq-eqb _ _ (rw (c .before .before .row .ensures) at (c .before .if2 .left)), ne-eqb _ _ (rw (c .before .before .row .ensures) at (c .if3 .taken)))
+returns-3 c =
+    rw (
+      lt-ltb _ _ (rw (c .before .before .before .before .row-count .ensures) at (c .before .before .before .if1 .left)),
+      eq-eqb _ _ (rw (c .before .before .row .ensures) at (c .before .if2 .left)),
+      ne-eqb _ _ (rw (c .before .before .row .ensures) at (c .if3 .taken)),
+    )
 
 array-read-is-eq : tie.Need-array-read-is-eq
 array-read-is-eq c = search needs
@@ -39,14 +48,29 @@ is-eq-requires c κs = search needs
 
 returns-4 : tie.Need-returns-4
 unfolding isLevel all
-returns-4 c = rw (lt-ltb _ _ (rw (c .before .before .before .before .before .before .row-count .ensures) at (c .before .before .before .before .before .if1 .left)), eq-eqb _ _ (rw (c .before .before .before .before .row .ensures) at (c .before .before .before .if2 .left)), eq-eqb _ _ (rw (c .before .before .before .before .row .ensures) at (c .before .before .if3 .left)), sym (rw (c .before .before .before .before .row .ensures) at (c .before .is-eq .ensures)) ∙ not-true _ (c .if4 .taken))
+returns-4 c =
+    rw (
+      lt-ltb _ _
+          (rw (c .before .before .before .before .before .before .row-count .ensures) at (c .before .before .before .before .before .if1 .left)),
+      eq-eqb _ _ (rw (c .before .before .before .before .row .ensures) at (c .before .before .before .if2 .left)),
+      eq-eqb _ _ (rw (c .before .before .before .before .row .ensures) at (c .before .before .if3 .left)),
+      sym (rw (c .before .before .before .before .row .ensures) at (c .before .is-eq .ensures)) ∙ not-true _ (c .if4 .taken),
+    )
 
 array-read-t9 : tie.Need-array-read-t9
 array-read-t9 c = search needs
 
 returns-5 : tie.Need-returns-5
 unfolding isLevel all
-returns-5 c = rw (lt-ltb _ _ (rw (c .before .before .before .before .before .before .row-count .ensures) at (c .before .before .before .before .before .if1 .left)), eq-eqb _ _ (rw (c .before .before .before .before .row .ensures) at (c .before .before .before .if2 .left)), eq-eqb _ _ (rw (c .before .before .before .before .row .ensures) at (c .before .before .if3 .left)), sym (rw (c .before .before .before .before .row .ensures) at (c .before .is-eq .ensures)) ∙ not-false _ (c .if4 .left), c .before .before .before .before .row .ensures)
+returns-5 c =
+    rw (
+      lt-ltb _ _
+          (rw (c .before .before .before .before .before .before .row-count .ensures) at (c .before .before .before .before .before .if1 .left)),
+      eq-eqb _ _ (rw (c .before .before .before .before .row .ensures) at (c .before .before .before .if2 .left)),
+      eq-eqb _ _ (rw (c .before .before .before .before .row .ensures) at (c .before .before .if3 .left)),
+      sym (rw (c .before .before .before .before .row .ensures) at (c .before .is-eq .ensures)) ∙ not-false _ (c .if4 .left),
+      c .before .before .before .before .row .ensures,
+    )
 
 pub level-spec : {M : Type 1} → statement M
 level-spec =

@@ -36,7 +36,9 @@ level-requires : tie.Need-level-requires
 level-requires c κs = search needs
 
 returns : tie.Need-returns
-returns c = rw (sym (rw (c .before .before .before .before .before .row .ensures) at (c .before .before .before .before .both-const .ensures)) ∙ not-true _ (c .before .before .before .if1 .taken)) (c .level .ensures ∙ rw (c .before .before .map-at .ensures, c .before .map-at2 .ensures))
+returns c =
+    rw (sym (rw (c .before .before .before .before .before .row .ensures) at (c .before .before .before .before .both-const .ensures))
+    ∙ not-true _ (c .before .before .before .if1 .taken)) (c .level .ensures ∙ rw (c .before .before .map-at .ensures, c .before .map-at2 .ensures))
 
 same-bits-requires : tie.Need-same-bits-requires
 same-bits-requires c κs =
@@ -44,10 +46,22 @@ same-bits-requires c κs =
     (rw (c .before .before .row .ensures) (p .1 .0 _ (p .0 .1)), p .1 .1, sym (c .before .both-const .ensures) ∙ not-false _ (c .if1 .left))
 
 returns-2 : tie.Need-returns-2
-returns-2 c = rw (sym (rw (c .before .before .before .before .row .ensures) at (c .before .before .before .both-const .ensures)) ∙ not-false _ (c .before .before .if1 .left), sym (rw (c .before .before .before .before .row .ensures) at (c .before .same-bits .ensures)) ∙ c .if2 .taken)
+returns-2 c =
+    rw (
+      sym (rw (c .before .before .before .before .row .ensures) at (c .before .before .before .both-const .ensures))
+          ∙ not-false _ (c .before .before .if1 .left),
+      sym (rw (c .before .before .before .before .row .ensures) at (c .before .same-bits .ensures))
+          ∙ c .if2 .taken,
+    )
 
 returns-3 : tie.Need-returns-3
-returns-3 c = rw (sym (rw (c .before .before .before .before .row .ensures) at (c .before .before .before .both-const .ensures)) ∙ not-false _ (c .before .before .if1 .left), sym (rw (c .before .before .before .before .row .ensures) at (c .before .same-bits .ensures)) ∙ c .if2 .left)
+returns-3 c =
+    rw (
+      sym (rw (c .before .before .before .before .row .ensures) at (c .before .before .before .both-const .ensures))
+          ∙ not-false _ (c .before .before .if1 .left),
+      sym (rw (c .before .before .before .before .row .ensures) at (c .before .same-bits .ensures))
+          ∙ c .if2 .left,
+    )
 
 pub pair-step-spec : {M : Type 1} → statement M
 pair-step-spec =

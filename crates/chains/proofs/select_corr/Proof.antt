@@ -29,7 +29,11 @@ same-length : tie.Need-same-length
 same-length c = search needs
 
 returns : tie.Need-returns
-returns c = (c .before .before .walk-end .ensures .0 ∙ rw (c .before .before .before .before .chain-walk .ensures), c .before .before .walk-end .ensures .1 ∙ rw (c .before .before .before .before .chain-walk .ensures))
+returns c = (
+  c .before .before .walk-end .ensures .0 ∙ rw (c .before .before .before .before .chain-walk .ensures),
+  c .before .before .walk-end .ensures .1
+      ∙ rw (c .before .before .before .before .chain-walk .ensures),
+)
 
 pub select-corr-spec : {M : Type 1} → statement M
 select-corr-spec =

@@ -10,14 +10,17 @@ use Rattle.answers.specs.Answer.{isAccepted}
 use Rattle.rows.specs.declared.Graph.the-variants.{Source, Target}
 use Rattle.lowering.specs.Lowering.{Lowering, loweringIn, arraySorts}
 use Rattle.forms.proofs.Form.{widths-front}
-use Rattle.checker.proofs.Outcome.{counts, widths-cleared, count-done, graph-done, match-done, accept-done, room-0, room-1, room-2, room-3, forms-sorted, forms-formed, by-lists, zeros-long}
+use Rattle.checker.proofs.Outcome.{counts, widths-cleared, count-done, graph-done, match-done, accept-done, room-0, room-1, room-2, room-3}
+use Rattle.checker.proofs.Outcome.{forms-sorted, forms-formed, by-lists, zeros-long}
 use borrow.Author.Needs.{needs}
 use Rattle.checker.proofs.check.Statement.{statement}
 use Rattle.checker.proofs.check.Tie as tie
 
 -- the start, from the first place past what is known of the lists
 abbrev start : tie.After-count-answer → tie.Start
-start c = let lists = c .before .before .before .before .before .before .before .before in lists .before .before .before .before .before .before .before .before .before
+start c =
+    let lists = c .before .before .before .before .before .before .before .before in
+    lists .before .before .before .before .before .before .before .before .before
 
 abbrev input : tie.Start → Lowering
 input c =
@@ -45,7 +48,8 @@ counts-pass : (c : tie.Else1)
     isAccepted (counts (s .strict) (input at-start) (s .ws0 .now) (s .ws1 .now) (s .cls .now) (s .ent .now)) ≡ true)
 counts-pass c =
     let L = input (start (c .before .before)) in
-    rw (c .before .before .count-answer .ensures (L .source) (L .target) refl refl) at (sym (c .before .is-accepted .ensures) ∙ not-false _ (c .if1 .left))
+    rw (c .before .before .count-answer .ensures (L .source) (L .target) refl refl) at (sym (c .before .is-accepted .ensures)
+    ∙ not-false _ (c .if1 .left))
 
 forms-accepted : (c : tie.Else2) → isAccepted (graphed c .rooted-graphs .result) ≡ true
 forms-accepted c = sym (c .before .is-accepted2 .ensures) ∙ not-false _ (c .if2 .left)
@@ -62,7 +66,8 @@ returns c =
     let at-start = start at-count-answer in
     let s = at-start .args in
     let L = input at-start in
-    count-done (s .strict) L (s .ws0 .now) (s .ws1 .now) (s .cls .now) (s .ent .now) _ (at-count-answer .count-answer .ensures (L .source) (L .target) refl refl) (sym (c .before .is-accepted .ensures) ∙ not-true _ (c .if1 .taken))
+    count-done (s .strict) L (s .ws0 .now) (s .ws1 .now) (s .cls .now) (s .ent .now) _
+    (at-count-answer .count-answer .ensures (L .source) (L .target) refl refl) (sym (c .before .is-accepted .ensures) ∙ not-true _ (c .if1 .taken))
 
 rooted-graphs-requires : tie.Need-rooted-graphs-requires
 rooted-graphs-requires c κs =
@@ -70,8 +75,10 @@ rooted-graphs-requires c κs =
     let at-start = start at-count-answer in
     let s = at-start .args in
     let L = input at-start in
-    let c1 = counts-pass (c .before .before) in
-    (room-0 (s .strict) L (s .ws0 .now) (s .ws1 .now) (s .cls .now) (s .ent .now) c1, room-1 (s .strict) L (s .ws0 .now) (s .ws1 .now) (s .cls .now) (s .ent .now) c1)
+    let c1 = counts-pass (c .before .before) in (
+      room-0 (s .strict) L (s .ws0 .now) (s .ws1 .now) (s .cls .now) (s .ent .now) c1,
+      room-1 (s .strict) L (s .ws0 .now) (s .ws1 .now) (s .cls .now) (s .ent .now) c1,
+    )
 
 is-accepted-requires-2 : tie.Need-is-accepted-requires-2
 is-accepted-requires-2 c κs = search needs
@@ -103,7 +110,10 @@ returns-2 c =
     let c1 = counts-pass (counted at-graphs) in
     let z = at-clear-all .clear-all .ensures in
     let k = at-graphs .rooted-graphs in
-    by-lists _ _ _ _ _ _ _ _ _ _ (zeros-long _ (length (s .ws0 .now)) _ (z .0) (k .kept .1 .1 .1 .1 .1 .1 .1 .1 .1 .1 .0)) (zeros-long _ (length (s .ws1 .now)) _ (z .1 .0) (k .kept .1 .1 .1 .1 .1 .1 .1 .1 .1 .1 .1 .0)) (z .1 .1 .0) (z .1 .1 .1) (graph-done (s .strict) L (s .ws0 .now) (s .ws1 .now) (s .cls .now) (s .ent .now) _ c1 (k .ensures .0) (sym (at-is-accepted2 .is-accepted2 .ensures) ∙ not-true _ (at-then2 .if2 .taken)))
+    by-lists _ _ _ _ _ _ _ _ _ _ (zeros-long _ (length (s .ws0 .now)) _ (z .0) (k .kept .1 .1 .1 .1 .1 .1 .1 .1 .1 .1 .0))
+    (zeros-long _ (length (s .ws1 .now)) _ (z .1 .0) (k .kept .1 .1 .1 .1 .1 .1 .1 .1 .1 .1 .1 .0)) (z .1 .1 .0) (z .1 .1 .1)
+    (graph-done (s .strict) L (s .ws0 .now) (s .ws1 .now) (s .cls .now) (s .ent .now) _ c1 (k .ensures .0)
+    (sym (at-is-accepted2 .is-accepted2 .ensures) ∙ not-true _ (at-then2 .if2 .taken)))
 
 row-count-requires : tie.Need-row-count-requires
 row-count-requires c κs = search needs
@@ -115,7 +125,8 @@ slice-reshare-prefix-lowered c =
     let s = at-start .args in
     let L = input at-start in
     let c1 = counts-pass (counted at-graphs) in
-    rw (c .row-count .ensures, at-graphs .rooted-graphs .kept .1 .1 .1 .1 .1 .1 .1 .1 .1 .1 .1 .0) (room-1 (s .strict) L (s .ws0 .now) (s .ws1 .now) (s .cls .now) (s .ent .now) c1)
+    rw (c .row-count .ensures, at-graphs .rooted-graphs .kept .1 .1 .1 .1 .1 .1 .1 .1 .1 .1 .1 .0)
+    (room-1 (s .strict) L (s .ws0 .now) (s .ws1 .now) (s .cls .now) (s .ent .now) c1)
 
 slice-aggregate-lowered : tie.Need-slice-aggregate-lowered
 slice-aggregate-lowered c =
@@ -124,7 +135,8 @@ slice-aggregate-lowered c =
     let s = at-start .args in
     let L = input at-start in
     let c1 = counts-pass (counted at-graphs) in
-    sym (length-take-le _ _ (rw (c .before .row-count .ensures, at-graphs .rooted-graphs .kept .1 .1 .1 .1 .1 .1 .1 .1 .1 .1 .1 .0) (room-1 (s .strict) L (s .ws0 .now) (s .ws1 .now) (s .cls .now) (s .ent .now) c1)))
+    sym (length-take-le _ _ (rw (c .before .row-count .ensures, at-graphs .rooted-graphs .kept .1 .1 .1 .1 .1 .1 .1 .1 .1 .1 .1 .0)
+    (room-1 (s .strict) L (s .ws0 .now) (s .ws1 .now) (s .cls .now) (s .ent .now) c1)))
 
 lowered-requires : tie.Need-lowered-requires
 lowered-requires c κs =
@@ -138,7 +150,8 @@ lowered-requires c κs =
     let g1 = rw (at-graphs .rooted-graphs .ensures .0) at ok in (
       forms-formed (s .strict) L (s .ws0 .now) (s .ws1 .now) (s .cls .now) (s .ent .now) g1,
       (
-        widths-front plain Target (length (s .tbits .now)) _ [] (s .target .now) _ _ (c .before .before .before .row-count .ensures) (at-graphs .rooted-graphs .ensures .1 .1 ok),
+        widths-front plain Target (length (s .tbits .now)) _ [] (s .target .now) _ _ (c .before .before .before .row-count .ensures)
+            (at-graphs .rooted-graphs .ensures .1 .1 ok),
         (
           room-2 (s .strict) L (s .ws0 .now) (s .ws1 .now) (s .cls .now) (s .ent .now) c1,
           (
@@ -184,7 +197,12 @@ returns-3 c =
     let z = at-clear-all2 .clear-all2 .ensures in
     let k = at-graphs .rooted-graphs in
     let l = at-lowered .lowered in
-    by-lists _ _ _ _ _ _ _ _ _ _ (zeros-long _ (length (s .ws0 .now)) _ (z .0) (k .kept .1 .1 .1 .1 .1 .1 .1 .1 .1 .1 .0)) (zeros-long _ (length (s .ws1 .now)) _ (z .1 .0) (k .kept .1 .1 .1 .1 .1 .1 .1 .1 .1 .1 .1 .0)) (zeros-long _ (length (s .cls .now)) _ (z .1 .1 .0) (l .kept .1 .1 .1 .1 .1 .1 .1 .1 .1 .1 .1 .1 .1 .1 .0)) (zeros-long _ (length (s .ent .now)) _ (z .1 .1 .1) (l .kept .1 .1 .1 .1 .1 .1 .1 .1 .1 .1 .1 .1 .1 .1 .1 .0)) (match-done (s .strict) L (s .ws0 .now) (s .ws1 .now) (s .cls .now) (s .ent .now) _ c1 g1 (l .ensures .0) (sym (at-is-accepted3 .is-accepted3 .ensures) ∙ not-true _ (at-then3 .if3 .taken)))
+    by-lists _ _ _ _ _ _ _ _ _ _ (zeros-long _ (length (s .ws0 .now)) _ (z .0) (k .kept .1 .1 .1 .1 .1 .1 .1 .1 .1 .1 .0))
+    (zeros-long _ (length (s .ws1 .now)) _ (z .1 .0) (k .kept .1 .1 .1 .1 .1 .1 .1 .1 .1 .1 .1 .0))
+    (zeros-long _ (length (s .cls .now)) _ (z .1 .1 .0) (l .kept .1 .1 .1 .1 .1 .1 .1 .1 .1 .1 .1 .1 .1 .1 .0))
+    (zeros-long _ (length (s .ent .now)) _ (z .1 .1 .1) (l .kept .1 .1 .1 .1 .1 .1 .1 .1 .1 .1 .1 .1 .1 .1 .1 .0))
+    (match-done (s .strict) L (s .ws0 .now) (s .ws1 .now) (s .cls .now) (s .ent .now) _ c1 g1 (l .ensures .0)
+    (sym (at-is-accepted3 .is-accepted3 .ensures) ∙ not-true _ (at-then3 .if3 .taken)))
 
 row-count-requires-2 : tie.Need-row-count-requires-2
 row-count-requires-2 c κs = search needs
@@ -197,7 +215,8 @@ clear-from-requires c κs =
     let s = at-start .args in
     let L = input at-start in
     let c1 = counts-pass (counted at-graphs) in
-    rw (c .row-count2 .ensures, at-graphs .rooted-graphs .kept .1 .1 .1 .1 .1 .1 .1 .1 .1 .1 .0) (room-0 (s .strict) L (s .ws0 .now) (s .ws1 .now) (s .cls .now) (s .ent .now) c1)
+    rw (c .row-count2 .ensures, at-graphs .rooted-graphs .kept .1 .1 .1 .1 .1 .1 .1 .1 .1 .1 .0)
+    (room-0 (s .strict) L (s .ws0 .now) (s .ws1 .now) (s .cls .now) (s .ent .now) c1)
 
 clear-from-requires-2 : tie.Need-clear-from-requires-2
 clear-from-requires-2 c κs =
@@ -208,7 +227,8 @@ clear-from-requires-2 c κs =
     let s = at-start .args in
     let L = input at-start in
     let c1 = counts-pass (counted at-graphs) in
-    rw (at-row-count .row-count .ensures, at-graphs .rooted-graphs .kept .1 .1 .1 .1 .1 .1 .1 .1 .1 .1 .1 .0) (room-1 (s .strict) L (s .ws0 .now) (s .ws1 .now) (s .cls .now) (s .ent .now) c1)
+    rw (at-row-count .row-count .ensures, at-graphs .rooted-graphs .kept .1 .1 .1 .1 .1 .1 .1 .1 .1 .1 .1 .0)
+    (room-1 (s .strict) L (s .ws0 .now) (s .ws1 .now) (s .cls .now) (s .ent .now) c1)
 
 same-length-9 : tie.Need-same-length-9
 same-length-9 c = search needs
@@ -241,7 +261,12 @@ returns-4 c =
     let k = at-graphs .rooted-graphs in
     let l = at-lowered .lowered in
     let m = sym (at-is-accepted3 .is-accepted3 .ensures) ∙ not-false _ (at-else3 .if3 .left) in
-    by-lists _ _ _ _ _ _ _ _ _ _ (widths-cleared (arraySorts L) Source (length (s .ebits .now)) _ (length (s .ws0 .now)) (s .eside .now) (s .source .now) _ _ _ (at-row-count2 .row-count2 .ensures) (k .ensures .1 .0 ok) (k .kept .1 .1 .1 .1 .1 .1 .1 .1 .1 .1 .0) (at-clear-from .clear-from .ensures)) (widths-cleared plain Target (length (s .tbits .now)) _ (length (s .ws1 .now)) [] (s .target .now) _ _ _ (at-row-count .row-count .ensures) (k .ensures .1 .1 ok) (k .kept .1 .1 .1 .1 .1 .1 .1 .1 .1 .1 .1 .0) (c .before .before .clear-from2 .ensures)) (l .ensures .1 .0 m) (l .ensures .1 .1 m) (accept-done (s .strict) L (s .ws0 .now) (s .ws1 .now) (s .cls .now) (s .ent .now) _ c1 g1 (l .ensures .0) m)
+    by-lists _ _ _ _ _ _ _ _ _ _ (widths-cleared (arraySorts L) Source (length (s .ebits .now)) _ (length (s .ws0 .now)) (s .eside .now)
+    (s .source .now) _ _ _ (at-row-count2 .row-count2 .ensures) (k .ensures .1 .0 ok) (k .kept .1 .1 .1 .1 .1 .1 .1 .1 .1 .1 .0)
+    (at-clear-from .clear-from .ensures)) (widths-cleared plain Target (length (s .tbits .now)) _ (length (s .ws1 .now)) [] (s .target .now) _ _ _
+    (at-row-count .row-count .ensures) (k .ensures .1 .1 ok) (k .kept .1 .1 .1 .1 .1 .1 .1 .1 .1 .1 .1 .0) (c .before .before .clear-from2 .ensures))
+    (l .ensures .1 .0 m) (l .ensures .1 .1 m) (accept-done (s .strict) L (s .ws0 .now) (s .ws1 .now) (s .cls .now) (s .ent .now) _ c1 g1
+    (l .ensures .0) m)
 
 pub check-spec : {M : Type 1} → statement M
 check-spec =

@@ -62,7 +62,8 @@ returns-2 c =
     let a = else1 .before .before in
     sym
     (a .loop .inv .1
-    ∙ all-tag _ _ _ (a .loop .l) (a .loop .cur) (else1 .before .loop-test .taken) (inside else1) (ne-eqb _ _ (rw (c .before .row .ensures) at (c .if2 .taken))))
+    ∙ all-tag _ _ _ (a .loop .l) (a .loop .cur) (else1 .before .loop-test .taken) (inside else1)
+    (ne-eqb _ _ (rw (c .before .row .ensures) at (c .if2 .taken))))
 
 add-is-eq : tie.Need-add-is-eq Inv-loop μ-loop
 add-is-eq c = search needs
@@ -137,7 +138,8 @@ is-eq-requires-2 c κs = search needs
 returns-4 : tie.Need-returns-4 Inv-loop μ-loop
 returns-4 c =
     let a = c .before .before .before .before in
-    c .is-eq2 .ensures ∙ sym (a .loop .inv .1 ∙ all-one _ _ _ (a .loop .l) (a .loop .cur) (c .before .before .before .loop-test .left) ∙ simp add-zero)
+    c .is-eq2 .ensures ∙ sym (a .loop .inv .1 ∙ all-one _ _ _ (a .loop .l) (a .loop .cur) (c .before .before .before .loop-test .left)
+    ∙ simp add-zero)
 
 pub ante-ok-spec : {M : Type 1} → statement M
 ante-ok-spec =

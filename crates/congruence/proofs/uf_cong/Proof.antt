@@ -31,7 +31,8 @@ uf-cong-for-requires c κs =
 returns : tie.Need-returns Inv-loop μ-loop
 returns c =
     let at-loop = c .before .before .before .before in
-    table-stop (at-loop .loop .inv .1) (rw (at-loop .before .call-count .ensures) at (c .before .before .before .loop-test .taken)) _ (c .before .before .uf-cong-for .ensures) (not-true _ (c .if1 .taken))
+    table-stop (at-loop .loop .inv .1) (rw (at-loop .before .call-count .ensures) at (c .before .before .before .loop-test .taken)) _
+    (c .before .before .uf-cong-for .ensures) (not-true _ (c .if1 .taken))
 
 add-k : tie.Need-add-k Inv-loop μ-loop
 add-k c = omega arith
@@ -43,7 +44,8 @@ loop-again : tie.Need-loop-again Inv-loop μ-loop
 loop-again c =
     let at-loop = c .before .before .before .before in (
       omega arith,
-      table-on (at-loop .loop .inv .1) (rw (at-loop .before .call-count .ensures) at (c .before .before .before .loop-test .taken)) _ (c .before .before .uf-cong-for .ensures) (not-false _ (c .if1 .left)),
+      table-on (at-loop .loop .inv .1) (rw (at-loop .before .call-count .ensures) at (c .before .before .before .loop-test .taken)) _
+          (c .before .before .uf-cong-for .ensures) (not-false _ (c .if1 .left)),
     )
 
 returns-2 : tie.Need-returns-2 Inv-loop μ-loop

@@ -102,7 +102,8 @@ alike-is : (c : tie.After-function-is Inv-loop μ-loop)
 alike-is c =
     let a = c .before .before in
     let s = start a .args in
-    let at : ℕ → Bool = functionIs (s .calls .now) (s .ws .now) (a .loop .l * 4) (callFunction (s .calls .now) (s .k)) (argCount (s .calls .now) (s .k)) in
+    let at : ℕ → Bool =
+    functionIs (s .calls .now) (s .ws .now) (a .loop .l * 4) (callFunction (s .calls .now) (s .k)) (argCount (s .calls .now) (s .k)) in
     c .function-is .ensures ∙ ap at (a .before .width-at .ensures)
 
 told : (c : tie.Then1 Inv-loop μ-loop)
@@ -130,7 +131,8 @@ needs-is c =
 stands-is : (c : tie.After-call-stands Inv-loop μ-loop)
     → let a = c .before .before .before .before .before .before in
     let s = start a .args in
-    c .call-stands .result ≡ rootAt (s .troots .now) (callRoot (s .calls .now) (s .cargs .now) (s .target .now)) (a .loop .idx) (pair (s .k) (a .loop .l))
+    c .call-stands .result ≡ rootAt (s .troots .now) (callRoot (s .calls .now) (s .cargs .now) (s .target .now)) (a .loop .idx)
+    (pair (s .k) (a .loop .l))
 unfolding rootAt
 stands-is c = c .call-stands .ensures
 
@@ -186,7 +188,9 @@ loop-again c =
     let s = start at-loop .args in
     let l = at-loop .loop in
     let h = rw (counted at-loop .call-count .ensures) at (c .before .before .loop-test .taken) in
-    let one = one-function (s .target .now) (s .ws .now) (start at-loop .pre .1 .0) (s .calls .now) (s .cargs .now) (s .troots .now) (s .k) (l .l) (l .idx) in
+    let one =
+    one-function (s .target .now) (s .ws .now) (start at-loop .pre .1 .0) (s .calls .now) (s .cargs .now) (s .troots .now) (s .k) (l .l)
+    (l .idx) in
     let same = same-function-at (s .calls .now) (s .cargs .now) (s .ws .now) _ _ (s .k) (l .l) refl refl in
     let other = other-function (s .calls .now) (s .cargs .now) (s .ws .now) (s .k) (l .l) in (
       omega arith,

@@ -12,12 +12,14 @@ wrapping-add-u64-requires c κs = search needs
 returns : tie.Need-returns
 returns c =
     let a = c .before .before in
-    sym (lt-ltb _ _ (wraps-past (a .args .start) (a .args .length) _ (c .before .wrapping-add-u64 .ensures) (a .fits .start .fits) (a .fits .length .fits) (a .args .n) (a .fits .n .fits) (c .if1 .taken)))
+    sym (lt-ltb _ _ (wraps-past (a .args .start) (a .args .length) _ (c .before .wrapping-add-u64 .ensures) (a .fits .start .fits)
+    (a .fits .length .fits) (a .args .n) (a .fits .n .fits) (c .if1 .taken)))
 
 returns-2 : tie.Need-returns-2
 returns-2 c =
     let a = c .before .before in
-    rw (sum-whole (a .args .start) (a .args .length) _ (c .before .wrapping-add-u64 .ensures) (a .fits .start .fits) (a .fits .length .fits) (c .if1 .left))
+    rw (sum-whole (a .args .start) (a .args .length) _ (c .before .wrapping-add-u64 .ensures) (a .fits .start .fits) (a .fits .length .fits)
+    (c .if1 .left))
 
 pub runs-past-spec : {M : Type 1} → statement M
 runs-past-spec = tie.close (tie.spec wrapping-add-u64-requires returns returns-2)

@@ -59,8 +59,11 @@ same-length-2 c = search needs
 returns-2 : tie.Need-returns-2 Inv-loop μ-loop
 returns-2 c =
     let room : length (c .before .before .args .list .now) ≤ length (c .before .loop .out) = omega arith in
-    let all : length (c .before .before .args .list .now) ≡ c .before .loop .i = omega arith in
-    (counts _ _ room, λ _. rw all (copy-done (c .before .before .args .list .now) (c .before .loop .out) (c .before .loop .i) (c .before .loop .inv .0) (c .loop-test .left) (c .before .loop .inv .2)))
+    let all : length (c .before .before .args .list .now) ≡ c .before .loop .i = omega arith in (
+      counts _ _ room,
+      λ _. rw all (copy-done (c .before .before .args .list .now) (c .before .loop .out) (c .before .loop .i)
+          (c .before .loop .inv .0) (c .loop-test .left) (c .before .loop .inv .2)),
+    )
 
 pub copy-bytes-spec : {M : Type 1} → statement M
 copy-bytes-spec =

@@ -49,8 +49,11 @@ same-length c = search needs
 
 returns : tie.Need-returns Inv-loop μ-loop
 returns c =
-    let room : c .before .loop .i ≤ length (c .before .loop .out) = omega arith in
-    (counts _ _ room, copy-done (c .before .before .args .list .now) (c .before .loop .out) (c .before .loop .i) (c .before .loop .inv .0) (c .loop-test .left) (c .before .loop .inv .2))
+    let room : c .before .loop .i ≤ length (c .before .loop .out) = omega arith in (
+      counts _ _ room,
+      copy-done (c .before .before .args .list .now) (c .before .loop .out) (c .before .loop .i) (c .before .loop .inv .0)
+          (c .loop-test .left) (c .before .loop .inv .2),
+    )
 
 pub lend-spec : {M : Type 1} → statement M
 lend-spec =

@@ -43,7 +43,8 @@ returns c =
     let d = c .before .before .before in
     let f = d .fits .z in
     let t = c .before .before .if1 .taken in
-    rw (c .before .ones .ensures, c .low .ensures, below-code _ f t, toZ-low _ (f .sfits)) (sym (back-below (d .args .w) (d .args .z) (code-sign _ true f t)))
+    rw (c .before .ones .ensures, c .low .ensures, below-code _ f t, toZ-low _ (f .sfits))
+    (sym (back-below (d .args .w) (d .args .z) (code-sign _ true f t)))
 
 returns-2 : tie.Need-returns-2
 returns-2 c =

@@ -25,7 +25,8 @@ div-back : tie.Need-div-back
 div-back c =
     let o = c .before .before .before in
     let d = o .before .before in
-    can-divide _ _ _ _ _ (d .pre, o .before .if1 .left, sym (o .overflows .ensures) ∙ c .before .before .if3 .left) (c .before .signed .ensures) (c .signed2 .ensures)
+    can-divide _ _ _ _ _ (d .pre, o .before .if1 .left, sym (o .overflows .ensures) ∙ c .before .before .if3 .left) (c .before .signed .ensures)
+    (c .signed2 .ensures)
 
 back-requires : tie.Need-back-requires
 back-requires c κs = search needs
@@ -38,7 +39,11 @@ returns c =
 returns-2 : tie.Need-returns-2
 returns-2 c =
     let d = c .before .before .before .before in
-    c .ones .ensures ∙ sym (rw (c .before .before .before .if1 .taken, sdiv-zero _ (d .args .a) (d .pre .0), sym (c .before .before .is-negative .ensures) ∙ c .before .if2 .left))
+    c .ones .ensures ∙ sym (rw (
+      c .before .before .before .if1 .taken,
+      sdiv-zero _ (d .args .a) (d .pre .0),
+      sym (c .before .before .is-negative .ensures) ∙ c .before .if2 .left,
+    ))
 
 returns-3 : tie.Need-returns-3
 returns-3 c =
@@ -50,8 +55,10 @@ returns-4 c =
     let s = c .before in
     let o = s .before .before .before in
     let d = o .before .before in
-    let p : Divides (d .args .w) (d .args .a) (d .args .b) = (d .pre, o .before .if1 .left, sym (o .overflows .ensures) ∙ s .before .before .if3 .left) in
-    c .back .ensures ∙ rw (quot-code _ _ _ _ _ p (s .before .signed .ensures) (s .signed2 .ensures)) (sym (sdiv-law _ _ _ (d .pre .0) (d .pre .2) (d .pre .3) (p .1)))
+    let p : Divides (d .args .w) (d .args .a) (d .args .b) =
+    (d .pre, o .before .if1 .left, sym (o .overflows .ensures) ∙ s .before .before .if3 .left) in
+    c .back .ensures ∙ rw (quot-code _ _ _ _ _ p (s .before .signed .ensures) (s .signed2 .ensures))
+    (sym (sdiv-law _ _ _ (d .pre .0) (d .pre .2) (d .pre .3) (p .1)))
 
 pub bv-sdiv-spec : {M : Type 1} → statement M
 bv-sdiv-spec =

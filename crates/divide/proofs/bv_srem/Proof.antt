@@ -19,7 +19,8 @@ rem-back : tie.Need-rem-back
 rem-back c =
     let o = c .before .before .before in
     let d = o .before .before in
-    can-divide _ _ _ _ _ (d .pre, o .before .if1 .left, sym (o .overflows .ensures) ∙ c .before .before .if2 .left) (c .before .signed .ensures) (c .signed2 .ensures)
+    can-divide _ _ _ _ _ (d .pre, o .before .if1 .left, sym (o .overflows .ensures) ∙ c .before .before .if2 .left) (c .before .signed .ensures)
+    (c .signed2 .ensures)
 
 back-requires : tie.Need-back-requires
 back-requires c κs = search needs
@@ -39,8 +40,10 @@ returns-3 c =
     let s = c .before in
     let o = s .before .before .before in
     let d = o .before .before in
-    let p : Divides (d .args .w) (d .args .a) (d .args .b) = (d .pre, o .before .if1 .left, sym (o .overflows .ensures) ∙ s .before .before .if2 .left) in
-    c .back .ensures ∙ rw (rem-code _ _ _ _ _ p (s .before .signed .ensures) (s .signed2 .ensures)) (sym (srem-law _ _ _ (d .pre .0) (d .pre .2) (d .pre .3)))
+    let p : Divides (d .args .w) (d .args .a) (d .args .b) =
+    (d .pre, o .before .if1 .left, sym (o .overflows .ensures) ∙ s .before .before .if2 .left) in
+    c .back .ensures ∙ rw (rem-code _ _ _ _ _ p (s .before .signed .ensures) (s .signed2 .ensures))
+    (sym (srem-law _ _ _ (d .pre .0) (d .pre .2) (d .pre .3)))
 
 pub bv-srem-spec : {M : Type 1} → statement M
 bv-srem-spec =

@@ -32,7 +32,8 @@ cast-result-2 c = record { sfits = low-63 _ _ (c .before .before .pre) (sym (c .
 returns : tie.Need-returns
 returns c =
     let d = c .before .before .before in
-    rw (c .ones .ensures, high-code _ _ (d .pre) (sym (c .before .before .is-negative .ensures) ∙ c .before .if1 .taken)) (toZ-ofZ w64 _ (read-fits _ _ (d .pre)))
+    rw (c .ones .ensures, high-code _ _ (d .pre) (sym (c .before .before .is-negative .ensures) ∙ c .before .if1 .taken))
+    (toZ-ofZ w64 _ (read-fits _ _ (d .pre)))
 
 returns-2 : tie.Need-returns-2
 returns-2 c = low-code _ _ (c .before .before .pre) (sym (c .before .is-negative .ensures) ∙ c .if1 .left)

@@ -12,7 +12,9 @@ largest-requires : tie.Need-largest-requires
 largest-requires c κs = search needs
 
 returns : tie.Need-returns
-returns c = let s = c .before .before .before .args in sym (first-none (bitBad (s .bits .now)) _ (λ j h. le-ltb _ _ (le-trans (c .before .largest .ensures j h) (c .if1 .taken))))
+returns c =
+    let s = c .before .before .before .args in
+    sym (first-none (bitBad (s .bits .now)) _ (λ j h. le-ltb _ _ (le-trans (c .before .largest .ensures j h) (c .if1 .taken))))
 
 first-bad-bit-requires : tie.Need-first-bad-bit-requires
 first-bad-bit-requires c κs = search needs

@@ -31,7 +31,9 @@ returns : tie.Need-returns Inv-loop μ-loop
 returns c =
     let s = c .before .before .before .before .before .before .before .args in
     let e = c .before .before .before .before .before .row-count .ensures in
-    sym (first-at (rowBad (s .graph) (s .g .now)) _ _ (rw e at (c .before .before .before .loop-test .taken)) (rw (c .before .before .row .ensures) at (rw (c .before .row-good .ensures) at (c .if1 .taken))) (c .before .before .before .before .loop .inv .1))
+    sym (first-at (rowBad (s .graph) (s .g .now)) _ _ (rw e at (c .before .before .before .loop-test .taken))
+    (rw (c .before .before .row .ensures) at (rw (c .before .row-good .ensures) at (c .if1 .taken)))
+    (c .before .before .before .before .loop .inv .1))
 
 add-i : tie.Need-add-i Inv-loop μ-loop
 add-i c = search needs
@@ -40,8 +42,11 @@ loop-less : tie.Need-loop-less Inv-loop μ-loop
 loop-less c = search needs
 
 loop-again : tie.Need-loop-again Inv-loop μ-loop
-loop-again c =
-    (search needs, below-more _ _ (c .before .before .before .before .loop .inv .1) (rw (c .before .before .row .ensures) at (rw (c .before .row-good .ensures) at (c .if1 .left))))
+loop-again c = (
+  search needs,
+  below-more _ _ (c .before .before .before .before .loop .inv .1)
+      (rw (c .before .before .row .ensures) at (rw (c .before .row-good .ensures) at (c .if1 .left))),
+)
 
 returns-2 : tie.Need-returns-2 Inv-loop μ-loop
 returns-2 c =

@@ -30,7 +30,8 @@ loop-less : tie.Need-loop-less Inv-loop μ-loop
 loop-less c = search needs
 
 loop-again : tie.Need-loop-again Inv-loop μ-loop
-loop-again c = (search needs, below-more _ _ (λ j h. le-trans (c .before .before .before .loop .inv .1 j h) (c .larger .ensures .0)) (c .larger .ensures .1))
+loop-again c =
+    (search needs, below-more _ _ (λ j h. le-trans (c .before .before .before .loop .inv .1 j h) (c .larger .ensures .0)) (c .larger .ensures .1))
 
 returns : tie.Need-returns Inv-loop μ-loop
 returns c = λ j h. c .before .loop .inv .1 j (omega arith)

@@ -29,7 +29,9 @@ fields-good-requires : tie.Need-fields-good-requires
 fields-good-requires c κs = search needs
 
 returns-2 : tie.Need-returns-2
-returns-2 c = rw (lt-ltb _ _ (rw (c .before .before .before .tag-count .ensures) at (c .before .before .if1 .left))) (rw (c .before .field-count .ensures) at (c .fields-good .ensures))
+returns-2 c =
+    rw (lt-ltb _ _ (rw (c .before .before .before .tag-count .ensures) at (c .before .before .if1 .left)))
+    (rw (c .before .field-count .ensures) at (c .fields-good .ensures))
 
 pub row-good-spec : {M : Type 1} → statement M
 row-good-spec =

@@ -107,7 +107,13 @@ unfolding endGood all
 returns-5 c =
     let at-entry = c .before .before .before .before in
     let at-class = class-tested at-entry in
-    rw (row-in (row-tested at-class), class-read at-class, le-leb _ _ (entry-in at-entry), eq-eqb _ _ (c .before .before .if4 .left), c .map-at .ensures) (last-test _)
+    rw (
+      row-in (row-tested at-class),
+      class-read at-class,
+      le-leb _ _ (entry-in at-entry),
+      eq-eqb _ _ (c .before .before .if4 .left),
+      c .map-at .ensures,
+    ) (last-test _)
 
 pub base-read-ok-spec : {M : Type 1} → statement M
 base-read-ok-spec =

@@ -26,11 +26,19 @@ same-length : tie.Need-same-length
 same-length c = search needs
 
 returns : tie.Need-returns
-returns c = (c .before .before .base-read .ensures .0 ∙ rw (c .before .before .before .before .before .w .given .1), c .before .before .base-read .ensures .1 ∙ rw (c .before .before .before .before .before .w .given .1))
+returns c = (
+  c .before .before .base-read .ensures .0 ∙ rw (c .before .before .before .before .before .w .given .1),
+  c .before .before .base-read .ensures .1
+      ∙ rw (c .before .before .before .before .before .w .given .1),
+)
 
 returns-2 : tie.Need-returns-2
 unfolding endGood
-returns-2 c = (rw (c .before .before .w2 .given .1, c .map-at .ensures), rw (c .before .before .w2 .given .1) (sym (cond-same (eqb (c .before .before .w2 .given .0 .0) (c .map-at .result)) (c .before .before .before .before .before .before .before .before .before .args .cls .now))))
+returns-2 c = (
+  rw (c .before .before .w2 .given .1, c .map-at .ensures),
+  rw (c .before .before .w2 .given .1) (sym (cond-same (eqb (c .before .before .w2 .given .0 .0) (c .map-at .result))
+      (c .before .before .before .before .before .before .before .before .before .args .cls .now))),
+)
 
 returns-3 : tie.Need-returns-3
 unfolding endGood

@@ -25,7 +25,8 @@ whole : (c : tie.Else1)
 whole c =
     let p = c .before .before .before .before .before .before in
     let s = p .args in
-    whole-at (s .which) (s .second) (s .table .now) (s .beside .now) (s .target .now) (s .ws .now) (s .cls .now) (s .k) (s .w) (s .off) (p .pre .0 .0) (p .pre .0 .1)
+    whole-at (s .which) (s .second) (s .table .now) (s .beside .now) (s .target .now) (s .ws .now) (s .cls .now) (s .k) (s .w) (s .off) (p .pre .0 .0)
+    (p .pre .0 .1)
     (omega arith)
 
 sort-in-requires : tie.Need-sort-in-requires

@@ -10,7 +10,8 @@ enum-told : tie.Need-enum-told
 enum-told c = search needs
 
 -- a read entry is whole
-read-whole : (c : tie.After-enum-told) → c .before .before .before .before .args .k * 3 + 3 ≤ length (c .before .before .before .before .args .table .now)
+read-whole : (c : tie.After-enum-told)
+    → c .before .before .before .before .args .k * 3 + 3 ≤ length (c .before .before .before .before .args .table .now)
 read-whole c = rw (c .enum-told .given .1) at (c .before .before .before .before .pre .0)
 
 mul-sort-of : tie.Need-mul-sort-of

@@ -39,8 +39,14 @@ row-value-requires c κs =
     let p = c .before .before .before .before .before .before .before .before .before in
     let s = p .args in
     let l = c .before .before .before .loop in
-    let h = rw (p .pre .0 .widths) at (c .before .before .loop-test .taken) in
-    (h, rw (ap (take (l .i)) (l .inv .2) ∙ numbers-front (s .g .now) (s .bits .now) (s .given .now) (l .i) _, numbers-length (s .g .now) (s .bits .now) (s .given .now) (l .i)) (row-ready (s .g .now) (s .bits .now) (s .given .now) (s .ws .now) (p .pre .0) (l .i) h))
+    let h = rw (p .pre .0 .widths) at (c .before .before .loop-test .taken) in (
+      h,
+      rw (
+        ap (take (l .i)) (l .inv .2) ∙ numbers-front (s .g .now) (s .bits .now) (s .given .now) (l .i) _,
+        numbers-length (s .g .now) (s .bits .now) (s .given .now) (l .i),
+      )
+          (row-ready (s .g .now) (s .bits .now) (s .given .now) (s .ws .now) (p .pre .0) (l .i) h),
+    )
 
 mul-vs : tie.Need-mul-vs Inv-loop μ-loop
 mul-vs c = search needs
@@ -60,8 +66,14 @@ loop-again c =
     let s = p .args in
     let l = c .before .before .before .before .loop in
     let h = rw (p .pre .0 .widths) at (c .before .before .before .loop-test .taken) in
-    let v = (rw (ap (take (l .i)) (l .inv .2) ∙ numbers-front (s .g .now) (s .bits .now) (s .given .now) (l .i) _) at (c .row-value .ensures)) ∙ row-number (s .g .now) (s .bits .now) (s .given .now) (s .ws .now) (p .pre .0) (l .i) h 0 in
-    (omega arith, simp length-set (l .inv .1), rw (l .inv .2) (numbers-store (s .g .now) (s .bits .now) (s .given .now) (s .vs .now) (l .i) _ (omega arith) v))
+    let v =
+    (rw (ap (take (l .i)) (l .inv .2) ∙ numbers-front (s .g .now) (s .bits .now) (s .given .now) (l .i) _) at (c .row-value .ensures))
+    ∙ row-number (s .g .now) (s .bits .now) (s .given .now) (s .ws .now) (p .pre .0) (l .i) h 0 in (
+      omega arith,
+      simp length-set (l .inv .1),
+      rw (l .inv .2)
+          (numbers-store (s .g .now) (s .bits .now) (s .given .now) (s .vs .now) (l .i) _ (omega arith) v),
+    )
 
 same-length : tie.Need-same-length Inv-loop μ-loop
 same-length c = search needs

@@ -25,31 +25,46 @@ enum-known-node-2 : tie.Need-enum-known-node-2
 enum-known-node-2 c = search needs
 
 un-at-requires : tie.Need-un-at-requires
-un-at-requires c κs = let s = c .before .before .before .before .before .before .args in un-ready (s .bits .now) (s .ws .now) (s .vs .now) _ _ (rw (c .before .node2 .given .1) at (c .before .before .before .before .before .before .pre))
+un-at-requires c κs =
+    let s = c .before .before .before .before .before .before .args in
+    un-ready (s .bits .now) (s .ws .now) (s .vs .now) _ _ (rw
+    (c .before .node2 .given .1) at (c .before .before .before .before .before .before .pre))
 
 enum-known-node-3 : tie.Need-enum-known-node-3
 enum-known-node-3 c = search needs
 
 bin-at-requires : tie.Need-bin-at-requires
-bin-at-requires c κs = let s = c .before .before .before .before .before .before .args in bin-ready (s .bits .now) (s .ws .now) (s .vs .now) _ _ _ (rw (c .before .node3 .given .1) at (c .before .before .before .before .before .before .pre))
+bin-at-requires c κs =
+    let s = c .before .before .before .before .before .before .args in
+    bin-ready (s .bits .now) (s .ws .now) (s .vs .now) _ _ _
+    (rw (c .before .node3 .given .1) at (c .before .before .before .before .before .before .pre))
 
 enum-known-node-4 : tie.Need-enum-known-node-4
 enum-known-node-4 c = search needs
 
 extract-at-requires : tie.Need-extract-at-requires
-extract-at-requires c κs = let s = c .before .before .before .before .before .before .args in extract-ready (s .bits .now) (s .ws .now) (s .vs .now) _ _ _ (rw (c .before .node4 .given .1) at (c .before .before .before .before .before .before .pre))
+extract-at-requires c κs =
+    let s = c .before .before .before .before .before .before .args in
+    extract-ready (s .bits .now) (s .ws .now) (s .vs .now) _ _ _
+    (rw (c .before .node4 .given .1) at (c .before .before .before .before .before .before .pre))
 
 enum-known-node-5 : tie.Need-enum-known-node-5
 enum-known-node-5 c = search needs
 
 extend-at-requires : tie.Need-extend-at-requires
-extend-at-requires c κs = let s = c .before .before .before .before .before .before .args in extend-ready (s .bits .now) (s .ws .now) (s .vs .now) _ _ _ (rw (c .before .node5 .given .1) at (c .before .before .before .before .before .before .pre))
+extend-at-requires c κs =
+    let s = c .before .before .before .before .before .before .args in
+    extend-ready (s .bits .now) (s .ws .now) (s .vs .now) _ _ _
+    (rw (c .before .node5 .given .1) at (c .before .before .before .before .before .before .pre))
 
 enum-known-node-6 : tie.Need-enum-known-node-6
 enum-known-node-6 c = search needs
 
 ite-at-requires : tie.Need-ite-at-requires
-ite-at-requires c κs = let s = c .before .before .before .before .before .before .args in ite-ready (s .bits .now) (s .ws .now) (s .vs .now) _ _ _ (rw (c .before .node6 .given .1) at (c .before .before .before .before .before .before .pre))
+ite-at-requires c κs =
+    let s = c .before .before .before .before .before .before .args in
+    ite-ready (s .bits .now) (s .ws .now) (s .vs .now) _ _ _
+    (rw (c .before .node6 .given .1) at (c .before .before .before .before .before .before .pre))
 
 enum-told-2 : tie.Need-enum-told-2
 enum-told-2 c = search needs
@@ -72,13 +87,17 @@ returns-3 : tie.Need-returns-3
 returns-3 c =
     let s = c .before .before .before .before .before .before .before .args in
     let r = rw (c .before .before .node2 .given .1) at (c .before .before .before .before .before .before .before .pre) in
-    c .un-at .ensures ∙ sym (rw (c .before .before .node2 .given .1) (un-value (s .bits .now) (s .ws .now) (s .vs .now) (s .x) (c .before .before .node2 .given .0 .0) (c .before .before .node2 .given .0 .1 .0) (r .decoded)))
+    c .un-at .ensures ∙ sym (rw (c .before .before .node2 .given .1)
+    (un-value (s .bits .now) (s .ws .now) (s .vs .now) (s .x) (c .before .before .node2 .given .0 .0) (c .before .before .node2 .given .0 .1 .0)
+    (r .decoded)))
 
 returns-4 : tie.Need-returns-4
 returns-4 c =
     let s = c .before .before .before .before .before .before .before .args in
     let r = rw (c .before .before .node3 .given .1) at (c .before .before .before .before .before .before .before .pre) in
-    c .bin-at .ensures ∙ sym (rw (c .before .before .node3 .given .1) (bin-value (s .bits .now) (s .ws .now) (s .vs .now) (s .x) (c .before .before .node3 .given .0 .0) (c .before .before .node3 .given .0 .1 .0) (c .before .before .node3 .given .0 .1 .1 .0) (r .decoded)))
+    c .bin-at .ensures ∙ sym (rw (c .before .before .node3 .given .1)
+    (bin-value (s .bits .now) (s .ws .now) (s .vs .now) (s .x) (c .before .before .node3 .given .0 .0) (c .before .before .node3 .given .0 .1 .0)
+    (c .before .before .node3 .given .0 .1 .1 .0) (r .decoded)))
 
 returns-5 : tie.Need-returns-5
 unfolding operate
@@ -88,7 +107,9 @@ returns-6 : tie.Need-returns-6
 returns-6 c =
     let s = c .before .before .before .before .before .before .before .args in
     let r = rw (c .before .before .node5 .given .1) at (c .before .before .before .before .before .before .before .pre) in
-    c .extend-at .ensures ∙ sym (rw (c .before .before .node5 .given .1) (extend-value (s .bits .now) (s .ws .now) (s .vs .now) (s .x) (c .before .before .node5 .given .0 .0) (c .before .before .node5 .given .0 .1 .0) (c .before .before .node5 .given .0 .1 .1 .0) (r .decoded)))
+    c .extend-at .ensures ∙ sym (rw (c .before .before .node5 .given .1)
+    (extend-value (s .bits .now) (s .ws .now) (s .vs .now) (s .x) (c .before .before .node5 .given .0 .0) (c .before .before .node5 .given .0 .1 .0)
+    (c .before .before .node5 .given .0 .1 .1 .0) (r .decoded)))
 
 returns-7 : tie.Need-returns-7
 unfolding operate

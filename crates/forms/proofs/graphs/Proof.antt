@@ -158,8 +158,10 @@ returns-3 c =
     let a = rw (x .0, y .0) at (told table _ _ _ (c .graph-answer3 .ensures)) in (
       a ∙ graphs-stop (of table) S T,
       (
-        λ h. x .1 ∙ rw (x .0) (widths-all (sortsOf (of table)) Source (length (S .bits)) (S .side) (S .rows) _ (no-stop-source (sortAnswer (of table)) S T _ _ (rw a at h))),
-        λ h. y .1 ∙ rw (y .0) (widths-all plain Target (length (T .bits)) [] (T .rows) _ (no-stop-target (sortAnswer (of table)) S T _ _ (rw a at h))),
+        λ h. x .1 ∙ rw (x .0) (widths-all (sortsOf (of table)) Source (length (S .bits)) (S .side) (S .rows) _
+            (no-stop-source (sortAnswer (of table)) S T _ _ (rw a at h))),
+        λ h. y .1 ∙ rw (y .0) (widths-all plain Target (length (T .bits)) [] (T .rows) _
+            (no-stop-target (sortAnswer (of table)) S T _ _ (rw a at h))),
       ),
     )
 

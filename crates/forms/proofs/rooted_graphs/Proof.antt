@@ -44,8 +44,11 @@ returns c =
     let at-graphs = c .before .before .before .before .before .before in
     let at-start = start at-graphs in
     let s = at-start .args in
-    let g = at-graphs .graphs .ensures in
-    (graphs-refused (s .strict) (of at-start) (source at-start) (target at-start) (s .eroots .now) (s .troots .now) _ (g .0) (sym (c .before .is-accepted .ensures) ∙ not-true _ (c .if1 .taken)), g .1)
+    let g = at-graphs .graphs .ensures in (
+      graphs-refused (s .strict) (of at-start) (source at-start) (target at-start) (s .eroots .now) (s .troots .now) _ (g .0)
+          (sym (c .before .is-accepted .ensures) ∙ not-true _ (c .if1 .taken)),
+      g .1,
+    )
 
 row-count-requires : tie.Need-row-count-requires
 row-count-requires c κs = search needs
@@ -83,9 +86,15 @@ returns-2 c =
     let s = at-start .args in
     let g = at-graphs .graphs .ensures in
     let ok : isAccepted (at-graphs .graphs .result) ≡ true = sym (at-else .before .is-accepted .ensures) ∙ not-false _ (at-else .if1 .left) in
-    let ws0 = widths-front (sortsOf (of at-start)) Source (length (s .ebits .now)) _ (s .eside .now) (s .source .now) _ _ (at-source .row-count .ensures) (g .1 .0 ok) in
-    let ws1 = widths-front plain Target (length (s .tbits .now)) _ [] (s .target .now) _ _ (c .before .before .before .row-count2 .ensures) (g .1 .1 ok) in
-    (roots-asked (s .strict) (of at-start) (source at-start) (target at-start) (s .eroots .now) (s .troots .now) _ (g .0) ok _ _ _ (c .root-answer .ensures) ws0 ws1, (λ h. g .1 .0 ok, λ h. g .1 .1 ok))
+    let ws0 =
+    widths-front (sortsOf (of at-start)) Source (length (s .ebits .now)) _ (s .eside .now) (s .source .now) _ _ (at-source .row-count .ensures)
+    (g .1 .0 ok) in
+    let ws1 =
+    widths-front plain Target (length (s .tbits .now)) _ [] (s .target .now) _ _ (c .before .before .before .row-count2 .ensures) (g .1 .1 ok) in (
+      roots-asked (s .strict) (of at-start) (source at-start) (target at-start) (s .eroots .now) (s .troots .now) _ (g .0) ok _ _ _
+          (c .root-answer .ensures) ws0 ws1,
+      (λ h. g .1 .0 ok, λ h. g .1 .1 ok),
+    )
 
 pub rooted-graphs-spec : {M : Type 1} → statement M
 rooted-graphs-spec =

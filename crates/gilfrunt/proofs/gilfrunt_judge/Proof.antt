@@ -33,7 +33,9 @@ demand : (c : tie.After-judge) → c .judge .result .number ≡ 0 → Sound (hel
 demand c = c .judge .ensures .1 .0
 
 returns : tie.Need-returns
-returns c = let call = c .before .before .before .before .before .before .before .before .before .before in (call .judge .ensures .0, (demand call, call .judge .ensures .1 .1))
+returns c =
+    let call = c .before .before .before .before .before .before .before .before .before .before in
+    (call .judge .ensures .0, (demand call, call .judge .ensures .1 .1))
 
 pub gilfrunt-judge-spec : {M : Type 1} → statement M
 gilfrunt-judge-spec = tie.close (tie.spec judge-requires same-length same-length-2 same-length-3 same-length-4 same-length-5 returns)

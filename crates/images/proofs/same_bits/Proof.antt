@@ -16,21 +16,26 @@ returns : tie.Need-returns
 returns c =
     let s = c .before .before .before .before .before .before .before in
     let p = fields _ _ _ (c .before .before .before .before .ext-const .ensures) _ (c .before .before .before .ext-const2 .ensures) (s .pre .2) in
-    same-other-width _ _ _ _ (s .pre .2) (λ z. c .if1 .taken (ap (λ (k : Constant). k .width) (p .0) ∙ z ∙ sym (ap (λ (k : Constant). k .width) (p .1))))
+    same-other-width _ _ _ _ (s .pre .2) (λ z. c .if1 .taken
+    (ap (λ (k : Constant). k .width) (p .0) ∙ z ∙ sym (ap (λ (k : Constant). k .width) (p .1))))
 
 bits-eq-requires : tie.Need-bits-eq-requires
 bits-eq-requires c κs =
     let s = c .before .before .before .before .before .before .before in
     let p = fields _ _ _ (c .before .before .before .before .ext-const .ensures) _ (c .before .before .before .ext-const2 .ensures) (s .pre .2) in
     let w = sym (ap (λ (k : Constant). k .width) (p .0)) ∙ c .if1 .left ∙ ap (λ (k : Constant). k .width) (p .1) in
-    rw (ap (λ (k : Constant). k .start) (p .0), ap (λ (k : Constant). k .width) (p .0), ap (λ (k : Constant). k .start) (p .1)) (stretches (s .args .rbits .now) _ (s .args .qbits .now) _ (s .pre .2) (s .pre .0) (s .pre .1) w)
+    rw (ap (λ (k : Constant). k .start) (p .0), ap (λ (k : Constant). k .width) (p .0), ap (λ (k : Constant). k .start) (p .1))
+    (stretches (s .args .rbits .now) _ (s .args .qbits .now) _ (s .pre .2) (s .pre .0) (s .pre .1) w)
 
 returns-2 : tie.Need-returns-2
 returns-2 c =
     let s = c .before .before .before .before .before .before .before .before in
-    let p = fields _ _ _ (c .before .before .before .before .before .ext-const .ensures) _ (c .before .before .before .before .ext-const2 .ensures) (s .pre .2) in
+    let p =
+    fields _ _ _ (c .before .before .before .before .before .ext-const .ensures) _ (c .before .before .before .before .ext-const2 .ensures)
+    (s .pre .2) in
     let w = sym (ap (λ (k : Constant). k .width) (p .0)) ∙ c .before .if1 .left ∙ ap (λ (k : Constant). k .width) (p .1) in
-    c .bits-eq .ensures ∙ rw (ap (λ (k : Constant). k .start) (p .0), ap (λ (k : Constant). k .width) (p .0), ap (λ (k : Constant). k .start) (p .1)) (same-by-bits _ _ _ _ (s .pre .2) w)
+    c .bits-eq .ensures ∙ rw (ap (λ (k : Constant). k .start) (p .0), ap (λ (k : Constant). k .width) (p .0), ap (λ (k : Constant). k .start) (p .1))
+    (same-by-bits _ _ _ _ (s .pre .2) w)
 
 pub same-bits-spec : {M : Type 1} → statement M
 same-bits-spec =

@@ -33,7 +33,11 @@ word-bad-requires : tie.Need-word-bad-requires Inv-loop μ-loop
 word-bad-requires c κs = search needs
 
 returns : tie.Need-returns Inv-loop μ-loop
-returns c = let s = c .before .before .before .before .before .before .before .before in sym (first-at (wordBad (s .args .g .now) (s .args .given .now)) _ _ (rw (s .pre) at (c .before .before .before .before .loop-test .taken)) (rw (c .before .before .before .row .ensures) at (sym (c .before .word-bad .ensures) ∙ c .if1 .taken)) (c .before .before .before .before .before .loop .inv .1))
+returns c =
+    let s = c .before .before .before .before .before .before .before .before in
+    sym (first-at (wordBad (s .args .g .now) (s .args .given .now)) _ _ (rw (s .pre) at (c .before .before .before .before .loop-test .taken))
+    (rw (c .before .before .before .row .ensures) at (sym (c .before .word-bad .ensures) ∙ c .if1 .taken))
+    (c .before .before .before .before .before .loop .inv .1))
 
 add-i : tie.Need-add-i Inv-loop μ-loop
 add-i c = search needs
@@ -42,10 +46,17 @@ loop-less : tie.Need-loop-less Inv-loop μ-loop
 loop-less c = search needs
 
 loop-again : tie.Need-loop-again Inv-loop μ-loop
-loop-again c = (search needs, below-more _ _ (c .before .before .before .before .before .loop .inv .1) (rw (c .before .before .before .row .ensures) at (sym (c .before .word-bad .ensures) ∙ c .if1 .left)))
+loop-again c = (
+  search needs,
+  below-more _ _ (c .before .before .before .before .before .loop .inv .1)
+      (rw (c .before .before .before .row .ensures) at (sym (c .before .word-bad .ensures) ∙ c .if1 .left)),
+)
 
 returns-2 : tie.Need-returns-2 Inv-loop μ-loop
-returns-2 c = let s = c .before .before .before .before in sym (first-past (wordBad (s .args .g .now) (s .args .given .now)) _ _ (rw (s .pre) at (c .before .loop .inv .0)) (rw (s .pre) at (c .loop-test .left)) (c .before .loop .inv .1))
+returns-2 c =
+    let s = c .before .before .before .before in
+    sym (first-past (wordBad (s .args .g .now) (s .args .given .now)) _ _ (rw (s .pre) at (c .before .loop .inv .0))
+    (rw (s .pre) at (c .loop-test .left)) (c .before .loop .inv .1))
 
 pub bad-word-spec : {M : Type 1} → statement M
 bad-word-spec =

@@ -77,7 +77,8 @@ returns c =
     let s = start (t .before .before) .args in
     let z = four .clear-all .ensures in
     by-lists _ _ _ _ _ _ _ _ _ _ _ _ (z .0) (z .1 .0) (z .1 .1 .0) (z .1 .1 .1) (last .clear .ensures)
-    (shape-done (s .strict) (s .book .now) (s .ws0 .now) (s .ws1 .now) (s .cls .now) (s .ent .now) (s .words .now) _ (t .before .before .book-answer .ensures) (sym (t .before .is-accepted .ensures) ∙ not-true _ (t .if1 .taken)))
+    (shape-done (s .strict) (s .book .now) (s .ws0 .now) (s .ws1 .now) (s .cls .now) (s .ent .now) (s .words .now) _
+    (t .before .before .book-answer .ensures) (sym (t .before .is-accepted .ensures) ∙ not-true _ (t .if1 .taken)))
 
 room-answer-requires : tie.Need-room-answer-requires
 room-answer-requires c κs = good c
@@ -89,7 +90,8 @@ returns-2 : tie.Need-returns-2
 returns-2 c =
     let e = c .before .before .before in
     let s = entry e .args in
-    room-done (s .strict) (s .book .now) (s .ws0 .now) (s .ws1 .now) (s .cls .now) (s .ent .now) (s .words .now) _ (good e) (c .before .before .room-answer .ensures) (sym (c .before .is-accepted2 .ensures) ∙ not-true _ (c .if2 .taken))
+    room-done (s .strict) (s .book .now) (s .ws0 .now) (s .ws1 .now) (s .cls .now) (s .ent .now) (s .words .now) _ (good e)
+    (c .before .before .room-answer .ensures) (sym (c .before .is-accepted2 .ensures) ∙ not-true _ (c .if2 .taken))
 
 load-requires : tie.Need-load-requires
 load-requires c κs =
@@ -132,7 +134,8 @@ same-length-10 c = search needs
 -- the answer on the book's lists is that of the check that was asked for
 answer-is : (c : tie.After-check-loaded)
     → (let s = entry (shaped (load-of c .before .before)) .args in
-    c .check-loaded .result ≡ checkAnswerBy (s .strict) (held (s .book .now)) (length (s .ws0 .now)) (length (s .ws1 .now)) (length (s .cls .now)) (length (s .ent .now)))
+    c .check-loaded .result ≡ checkAnswerBy (s .strict) (held (s .book .now)) (length (s .ws0 .now)) (length (s .ws1 .now)) (length (s .cls .now))
+    (length (s .ent .now)))
 answer-is c = ap (λ (o : Result). o .answer) (c .check-loaded .ensures)
 
 returns-3 : tie.Need-returns-3
@@ -142,7 +145,8 @@ returns-3 c =
     let l = load-of k in
     let e = l .before .before in
     let s = entry (shaped e) .args in
-    check-done (s .strict) (s .book .now) (s .ws0 .now) (s .ws1 .now) (s .cls .now) (s .ent .now) (s .words .now) _ (good (shaped e)) (roomy e) (answer-is k) _ (ap (λ (o : Result). o .lists) (k .check-loaded .ensures)) _
+    check-done (s .strict) (s .book .now) (s .ws0 .now) (s .ws1 .now) (s .cls .now) (s .ent .now) (s .words .now) _ (good (shaped e)) (roomy e)
+    (answer-is k) _ (ap (λ (o : Result). o .lists) (k .check-loaded .ensures)) _
     (words-left (s .book .now) _ _ _ _ (length (s .words .now)) (c .before .before .leave .ensures) (a .is-accepted3 .ensures) (l .load .kept .1 .0))
 
 pub judge-spec : {M : Type 1} → statement M

@@ -37,7 +37,9 @@ returns-2 c =
     let k = c .before .before .before .before .before in
     let t = k .before .before .before .before .before .before in
     let s = t .before .before in
-    let e = ap (λ (o : Result). o .answer) (k .judge .ensures) ∙ verdict-is (s .args .strict) (s .args .book .now) _ _ _ _ _ (omega arith) (omega arith) (omega arith) (omega arith) (omega arith) (t .if1 .left) in
+    let e =
+    ap (λ (o : Result). o .answer) (k .judge .ensures) ∙ verdict-is (s .args .strict) (s .args .book .now) _ _ _ _ _ (omega arith) (omega arith)
+    (omega arith) (omega arith) (omega arith) (t .if1 .left) in
     (e, verdict-means (s .args .strict) (s .args .book .now) (omega (arith, s .good .1 .0)) _ e)
 
 pub verdict-spec : {M : Type 1} → statement M

@@ -31,7 +31,8 @@ args-eq-requires c κs =
     (rw (eqb-true (getD (start .args .calls .now) (start .args .off + 3) 0) (start .args .n) e) at (start .pre .1), start .pre .2)
 
 returns-2 : tie.Need-returns-2
-returns-2 c = c .args-eq .ensures ∙ alone _ ∙ passes _ (sym (c .before .before .before .function-is .ensures) ∙ not-false _ (c .before .before .if1 .left))
+returns-2 c =
+    c .args-eq .ensures ∙ alone _ ∙ passes _ (sym (c .before .before .before .function-is .ensures) ∙ not-false _ (c .before .before .if1 .left))
 
 pub call-is-spec : {M : Type 1} → statement M
 call-is-spec =

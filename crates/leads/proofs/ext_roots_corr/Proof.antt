@@ -43,7 +43,8 @@ loop-again c = (omega arith, below-more _ _ (c .before .before .before .loop .in
 returns-2 : tie.Need-returns-2 Inv-loop μ-loop
 returns-2 c =
     let s = c .before .before .before .before .before .args in
-    sym (first-past (λ j. not (leads (s .map .now) (s .eroots .now) (s .troots .now) j)) _ _ (c .before .loop .inv .0) (c .loop-test .left) (c .before .loop .inv .1))
+    sym (first-past (λ j. not (leads (s .map .now) (s .eroots .now) (s .troots .now) j)) _ _ (c .before .loop .inv .0) (c .loop-test .left)
+    (c .before .loop .inv .1))
 
 pub ext-roots-corr-spec : {M : Type 1} → statement M
 ext-roots-corr-spec =

@@ -33,7 +33,12 @@ shared-slice-read-result c = search needs
 
 returns-3 : tie.Need-returns-3
 unfolding leads all
-returns-3 c = rw (ne-eqb _ _ (λ z. c .before .before .if1 .left (c .before .before .before .map-at .ensures ∙ z)), lt-ltb _ _ (c .before .if2 .left), c .before .before .before .map-at .ensures) (last-test _)
+returns-3 c =
+    rw (
+      ne-eqb _ _ (λ z. c .before .before .if1 .left (c .before .before .before .map-at .ensures ∙ z)),
+      lt-ltb _ _ (c .before .if2 .left),
+      c .before .before .before .map-at .ensures,
+    ) (last-test _)
 
 pub root-leads-spec : {M : Type 1} → statement M
 root-leads-spec =

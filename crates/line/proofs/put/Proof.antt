@@ -40,8 +40,12 @@ loop-again : tie.Need-loop-again Inv-loop μ-loop
 loop-again c =
     let l = c .before .before .loop in
     let a = c .before .before .before .args in
-    let h : a .at + l .i < length (l .out) = omega (arith, l .inv .1) in
-    (omega arith, simp length-set (l .inv .1), put-more (l .out) (now (a .out)) (now (a .text)) (a .at) (l .i) h (c .before .loop-test .taken) (l .inv .2))
+    let h : a .at + l .i < length (l .out) = omega (arith, l .inv .1) in (
+      omega arith,
+      simp length-set (l .inv .1),
+      put-more (l .out) (now (a .out)) (now (a .text)) (a .at) (l .i) h (c .before .loop-test .taken)
+          (l .inv .2),
+    )
 
 add-result : tie.Need-add-result Inv-loop μ-loop
 add-result c = search needs

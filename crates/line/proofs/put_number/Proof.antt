@@ -42,8 +42,11 @@ returns c =
     let p = c .before .before .put in
     let q = c .before .before .before .before .before .before .before .spell in
     let a = c .before .before .before .before .before .before .before .before .before .before .args in
-    let h : p .result < length (p .last .1 .0) = omega arith in
-    (omega arith, number-put _ (now (a .out)) _ _ (p .result) (a .at) (a .last) h (p .ensures .1) (take-all (20 - q .result) _ (simp length-drop (omega (arith, q .kept))) ∙ q .ensures .1))
+    let h : p .result < length (p .last .1 .0) = omega arith in (
+      omega arith,
+      number-put _ (now (a .out)) _ _ (p .result) (a .at) (a .last) h (p .ensures .1)
+          (take-all (20 - q .result) _ (simp length-drop (omega (arith, q .kept))) ∙ q .ensures .1),
+    )
 
 pub put-number-spec : {M : Type 1} → statement M
 put-number-spec =

@@ -14,7 +14,8 @@ use Rattle.line.proofs.spell.Statement.{statement}
 use Rattle.line.proofs.spell.Tie as tie
 
 abbrev Inv-loop : tie.InvT-loop
-Inv-loop n out₀ at₀ rest₀ out at rest = (at < 20) × (length out ≡ 20) × (rest < 10 ^ suc at) × (decimalIn (suc at) rest ++ drop (suc at) out ≡ decimalIn 20 n)
+Inv-loop n out₀ at₀ rest₀ out at rest =
+    (at < 20) × (length out ≡ 20) × (rest < 10 ^ suc at) × (decimalIn (suc at) rest ++ drop (suc at) out ≡ decimalIn 20 n)
 
 abbrev μ-loop : tie.MeasureT-loop
 μ-loop n out₀ at₀ rest₀ out at rest = at
@@ -33,10 +34,16 @@ slice-write-out : tie.Need-slice-write-out Inv-loop μ-loop
 slice-write-out c = search needs
 
 sub-at : tie.Need-sub-at Inv-loop μ-loop
-sub-at c = let z = two-places (c .before .before .loop .at) (c .before .before .loop .rest) (c .before .loop-test .taken) (c .before .before .loop .inv .2) in omega arith
+sub-at c =
+    let z =
+    two-places (c .before .before .loop .at) (c .before .before .loop .rest) (c .before .loop-test .taken) (c .before .before .loop .inv .2) in
+    omega arith
 
 loop-less : tie.Need-loop-less Inv-loop μ-loop
-loop-less c = let z = two-places (c .before .before .loop .at) (c .before .before .loop .rest) (c .before .loop-test .taken) (c .before .before .loop .inv .2) in omega arith
+loop-less c =
+    let z =
+    two-places (c .before .before .loop .at) (c .before .before .loop .rest) (c .before .loop-test .taken) (c .before .before .loop .inv .2) in
+    omega arith
 
 loop-again : tie.Need-loop-again Inv-loop μ-loop
 loop-again c =

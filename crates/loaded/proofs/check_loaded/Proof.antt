@@ -48,7 +48,8 @@ list-at-requires-7 : tie.Need-list-at-requires-7
 list-at-requires-7 c κs = let s = entry (c .before .before .before .before .before .before) in ((omega (arith, eleven s), s .pre .0), s .pre .1)
 
 list-at-requires-8 : tie.Need-list-at-requires-8
-list-at-requires-8 c κs = let s = entry (c .before .before .before .before .before .before .before) in ((omega (arith, eleven s), s .pre .0), s .pre .1)
+list-at-requires-8 c κs =
+    let s = entry (c .before .before .before .before .before .before .before) in ((omega (arith, eleven s), s .pre .0), s .pre .1)
 
 body-requires-2 : tie.Need-body-requires-2
 body-requires-2 c κs = let s = entry (first c) in (omega (arith, eleven s), s .pre .0)
@@ -95,7 +96,8 @@ returns c =
     let l0 = l1 .before in
     let s = entry l0 .args in
     let E = ap (λ (x : Bool). edition x (table .sorts-at .result .now)) (told .is-second .ensures) ∙ table .sorts-at .ensures in
-    held-by (s .strict) _ (s .book .now) _ _ _ _ _ _ _ _ _ _ _ (s .ws0 .now) (s .ws1 .now) (s .cls .now) (s .ent .now) _ E (l0 .list-at .ensures) (l1 .body .ensures)
+    held-by (s .strict) _ (s .book .now) _ _ _ _ _ _ _ _ _ _ _ (s .ws0 .now) (s .ws1 .now) (s .cls .now) (s .ent .now) _ E (l0 .list-at .ensures)
+    (l1 .body .ensures)
     (l2 .list-at2 .ensures) (l3 .list-at3 .ensures) (l4 .list-at4 .ensures) (l5 .list-at5 .ensures) (l6 .list-at6 .ensures) (l7 .list-at7 .ensures)
     (l8 .list-at8 .ensures) (l9 .body2 .ensures) (l10 .list-at9 .ensures) (k .check .ensures)
 

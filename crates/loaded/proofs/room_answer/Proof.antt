@@ -29,7 +29,9 @@ returns : tie.Need-returns
 returns c =
     let s = c .before .before .before .before .before .before .args in
     let b = s .book .now in
-    counts-refused b _ _ _ _ _ _ (c .before .before .count-answer .ensures (held b .source) (held b .target) (sym (c .before .before .before .before .word-count .ensures)) (sym (c .before .before .before .word-count2 .ensures))) (sym (c .before .is-accepted .ensures) ∙ not-true _ (c .if1 .taken))
+    counts-refused b _ _ _ _ _ _ (c .before .before .count-answer .ensures (held b .source) (held b .target)
+    (sym (c .before .before .before .before .word-count .ensures)) (sym (c .before .before .before .word-count2 .ensures)))
+    (sym (c .before .is-accepted .ensures) ∙ not-true _ (c .if1 .taken))
 
 sections-requires : tie.Need-sections-requires
 sections-requires c κs =
@@ -42,7 +44,8 @@ offset-requires c κs =
     (omega (arith, c .sections .ensures, sections-low (s .args .book .now)), s .pre)
 
 -- all words are counted
-counted : (c : tie.After-offset) → c .offset .result ≡ length (bookWords (c .before .before .before .before .before .before .before .before .args .book .now))
+counted : (c : tie.After-offset)
+    → c .offset .result ≡ length (bookWords (c .before .before .before .before .before .before .before .before .args .book .now))
 counted c =
     let b = c .before .before .before .before .before .before .before .before .args .book .now in
     let e : c .offset .result ≡ length (loaded b (c .before .sections .result)) = c .offset .ensures in
@@ -53,14 +56,18 @@ returns-2 c =
     let t = c .before .before .before in
     let s = t .before .before .before .before .before .before .args in
     let b = s .book .now in
-    words-short b _ _ _ _ _ _ (t .before .before .count-answer .ensures (held b .source) (held b .target) (sym (t .before .before .before .before .word-count .ensures)) (sym (t .before .before .before .word-count2 .ensures))) (sym (t .before .is-accepted .ensures) ∙ not-false _ (t .if1 .left)) _ (counted (c .before)) (c .if2 .taken)
+    words-short b _ _ _ _ _ _ (t .before .before .count-answer .ensures (held b .source) (held b .target)
+    (sym (t .before .before .before .before .word-count .ensures)) (sym (t .before .before .before .word-count2 .ensures)))
+    (sym (t .before .is-accepted .ensures) ∙ not-false _ (t .if1 .left)) _ (counted (c .before)) (c .if2 .taken)
 
 returns-3 : tie.Need-returns-3
 returns-3 c =
     let t = c .before .before .before in
     let s = t .before .before .before .before .before .before .args in
     let b = s .book .now in
-    room-good b _ _ _ _ _ _ (t .before .before .count-answer .ensures (held b .source) (held b .target) (sym (t .before .before .before .before .word-count .ensures)) (sym (t .before .before .before .word-count2 .ensures))) (sym (t .before .is-accepted .ensures) ∙ not-false _ (t .if1 .left)) _ (counted (c .before)) (c .if2 .left)
+    room-good b _ _ _ _ _ _ (t .before .before .count-answer .ensures (held b .source) (held b .target)
+    (sym (t .before .before .before .before .word-count .ensures)) (sym (t .before .before .before .word-count2 .ensures)))
+    (sym (t .before .is-accepted .ensures) ∙ not-false _ (t .if1 .left)) _ (counted (c .before)) (c .if2 .left)
 
 pub room-answer-spec : {M : Type 1} → statement M
 room-answer-spec =

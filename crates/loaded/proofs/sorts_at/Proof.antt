@@ -41,7 +41,9 @@ first : (b : List ℕ) (x y : List ℕ) → isSecond b ≡ false → edition (is
 first b x y e = rw e
 
 returns-2 : tie.Need-returns-2
-returns-2 c = let s = c .before .before .before .before .before .args in first (s .book .now) _ _ (sym (c .before .before .is-second .ensures) ∙ c .before .if1 .left)
+returns-2 c =
+    let s = c .before .before .before .before .before .args in
+    first (s .book .now) _ _ (sym (c .before .before .is-second .ensures) ∙ c .before .if1 .left)
 
 pub sorts-at-spec : {M : Type 1} → statement M
 sorts-at-spec =

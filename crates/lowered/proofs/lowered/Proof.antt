@@ -9,7 +9,9 @@ use Rattle.lowered.proofs.lowered.Tie as tie
 
 -- the start, from the first place past what is known of the lists
 abbrev start : tie.After-clear-arg → tie.Start
-start c = let lists = c .before .before .before .before .before .before .before .before in lists .before .before .before .before .before .before .before .before
+start c =
+    let lists = c .before .before .before .before .before .before .before .before in
+    lists .before .before .before .before .before .before .before .before
 
 clear-requires : tie.Need-clear-requires
 clear-requires c κs = search needs
@@ -39,7 +41,8 @@ slice-aggregate-matches-2 c =
     let at-clear-arg = c .before .before .before .before .before .before .before .before .before .before in
     let at-start = start at-clear-arg in
     let p = at-start .pre in
-    sym (length-take-le _ _ (rw (c .before .before .before .before .before .clear2 .ensures, c .before .before .row-count .ensures, length-replicate) (p .1 .1 .1 .0)))
+    sym (length-take-le _ _ (rw (c .before .before .before .before .before .clear2 .ensures, c .before .before .row-count .ensures, length-replicate)
+    (p .1 .1 .1 .0)))
 
 matches-requires : tie.Need-matches-requires
 matches-requires c κs =
@@ -47,8 +50,16 @@ matches-requires c κs =
     let at-clear-arg = at-clear .before in
     let at-start = start at-clear-arg in
     let p = at-start .pre in
-    let n = c .before .before .row-count .ensures in
-    (p .0, (p .1 .0, (rw (at-clear .clear .ensures, n) (zeros-front _ _ (p .1 .1 .0)), (rw (c .before .before .before .before .before .clear2 .ensures, n) (zeros-front _ _ (p .1 .1 .1 .0)), p .1 .1 .1 .1))))
+    let n = c .before .before .row-count .ensures in (
+      p .0,
+      (
+        p .1 .0,
+        (
+          rw (at-clear .clear .ensures, n) (zeros-front _ _ (p .1 .1 .0)),
+          (rw (c .before .before .before .before .before .clear2 .ensures, n) (zeros-front _ _ (p .1 .1 .1 .0)), p .1 .1 .1 .1),
+        ),
+      ),
+    )
 
 same-length : tie.Need-same-length
 same-length c = search needs
@@ -65,8 +76,13 @@ returns c =
     let at-start = start at-clear-arg in
     let p = at-start .pre in
     let n = at-row-count .row-count .ensures in
-    let m = c .before .before .before .before .matches .ensures in
-    (m .0, (λ h. rw (m .1 .0 h, at-clear .clear .ensures, n, zeros-back _ _ (p .1 .1 .0)), λ h. rw (m .1 .1 h, at-clear2 .clear2 .ensures, n, zeros-back _ _ (p .1 .1 .1 .0))))
+    let m = c .before .before .before .before .matches .ensures in (
+      m .0,
+      (
+        λ h. rw (m .1 .0 h, at-clear .clear .ensures, n, zeros-back _ _ (p .1 .1 .0)),
+        λ h. rw (m .1 .1 h, at-clear2 .clear2 .ensures, n, zeros-back _ _ (p .1 .1 .1 .0)),
+      ),
+    )
 
 pub lowered-spec : {M : Type 1} → statement M
 lowered-spec =

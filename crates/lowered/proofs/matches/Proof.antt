@@ -20,7 +20,9 @@ use Rattle.lowered.proofs.matches.Tie as tie
 
 -- the start, from the first place past what is known of the lists
 abbrev start : tie.After-row-count → tie.Start
-start c = let lists = c .before .before .before .before .before .before .before .before in lists .before .before .before .before .before .before .before .before
+start c =
+    let lists = c .before .before .before .before .before .before .before .before in
+    lists .before .before .before .before .before .before .before .before
 
 abbrev input : tie.Start → Lowering
 input c =
@@ -54,8 +56,10 @@ row-count-requires c κs = search needs
 returns : tie.Need-returns
 returns c =
     let at-row-count = c .before in
-    let L = input (start at-row-count) in
-    (rw (at-row-count .row-count .ensures) (sym (map-3 L (λ q. c .if1 .taken (q ∙ sym (at-row-count .row-count .ensures))))), (λ h. no-way (sym h), λ h. no-way (sym h)))
+    let L = input (start at-row-count) in (
+      rw (at-row-count .row-count .ensures) (sym (map-3 L (λ q. c .if1 .taken (q ∙ sym (at-row-count .row-count .ensures))))),
+      (λ h. no-way (sym h), λ h. no-way (sym h)),
+    )
 
 entries-requires : tie.Need-entries-requires
 entries-requires c κs =
@@ -79,15 +83,22 @@ returns-2 c =
     let at-start = entry at-entries in
     let p = at-start .pre in
     let L = input at-start in
-    tables-done L _ _ _ (p .1 .0) (p .1 .1 .0) (p .1 .1 .1 .0) _ _ _ (at-entries .entries .ensures .0) (at-entries .entries .ensures .1 .0) (at-entries .entries .ensures .1 .1) (map-fits at-entries) (sym (c .before .is-accepted .ensures) ∙ not-true _ (c .if2 .taken))
+    tables-done L _ _ _ (p .1 .0) (p .1 .1 .0) (p .1 .1 .1 .0) _ _ _ (at-entries .entries .ensures .0) (at-entries .entries .ensures .1 .0)
+    (at-entries .entries .ensures .1 .1) (map-fits at-entries) (sym (c .before .is-accepted .ensures) ∙ not-true _ (c .if2 .taken))
 
 ext-rows-requires : tie.Need-ext-rows-requires
 ext-rows-requires c κs =
     let at-entries = c .before .before .before .before .before .before .before .before in
     let at-start = entry at-entries in
     let p = at-start .pre in
-    let k = at-entries .entries .kept in
-    (p .0, (k .1 .1 .1 .1 .1 .1 .1 .1 .0 ∙ ap length (p .1 .1 .1 .0) ∙ length-replicate {A = ℕ} _ 0, k .1 .1 .1 .1 .1 .1 .1 .0 ∙ ap length (p .1 .1 .0) ∙ length-replicate {A = ℕ} _ 0))
+    let k = at-entries .entries .kept in (
+      p .0,
+      (
+        k .1 .1 .1 .1 .1 .1 .1 .1 .0 ∙ ap length (p .1 .1 .1 .0) ∙ length-replicate {A = ℕ} _ 0,
+        k .1 .1 .1 .1 .1 .1 .1 .0
+            ∙ ap length (p .1 .1 .0) ∙ length-replicate {A = ℕ} _ 0,
+      ),
+    )
 
 is-accepted-requires-2 : tie.Need-is-accepted-requires-2
 is-accepted-requires-2 c κs = search needs
@@ -105,7 +116,10 @@ returns-3 c =
     let at-start = entry at-entries in
     let p = at-start .pre in
     let L = input at-start in
-    rows-done L _ _ _ (p .1 .0) (p .1 .1 .0) (p .1 .1 .1 .0) _ _ _ (at-entries .entries .ensures .0) (at-entries .entries .ensures .1 .0) (at-entries .entries .ensures .1 .1) (map-fits at-entries) (tables-accepted at-else2) _ _ (c .before .before .before .before .ext-rows .ensures .0) (c .before .before .before .before .ext-rows .ensures .1) (sym (c .before .is-accepted2 .ensures) ∙ not-true _ (c .if3 .taken))
+    rows-done L _ _ _ (p .1 .0) (p .1 .1 .0) (p .1 .1 .1 .0) _ _ _ (at-entries .entries .ensures .0) (at-entries .entries .ensures .1 .0)
+    (at-entries .entries .ensures .1 .1) (map-fits at-entries) (tables-accepted at-else2) _ _
+    (c .before .before .before .before .ext-rows .ensures .0) (c .before .before .before .before .ext-rows .ensures .1)
+    (sym (c .before .is-accepted2 .ensures) ∙ not-true _ (c .if3 .taken))
 
 dead-entry-requires : tie.Need-dead-entry-requires
 dead-entry-requires c κs = search needs
@@ -124,7 +138,12 @@ returns-4 c =
     let at-start = entry at-entries in
     let p = at-start .pre in
     let L = input at-start in
-    dead-done L _ _ _ (p .1 .0) (p .1 .1 .0) (p .1 .1 .1 .0) _ _ _ (at-entries .entries .ensures .0) (at-entries .entries .ensures .1 .0) (at-entries .entries .ensures .1 .1) (map-fits at-entries) (tables-accepted at-else2) _ _ (at-ext-rows .ext-rows .ensures .0) (at-ext-rows .ext-rows .ensures .1) (sym (c .before .before .before .before .is-accepted2 .ensures) ∙ not-false _ (c .before .before .before .if3 .left)) _ (at-ext-rows .ext-rows .kept .1 .1 .1 .1 .1 .1 .1 .1 .1 .1 .0 ∙ at-entries .entries .kept .1 .1 .1 .1 .1 .1 .1 .0 ∙ ap length (p .1 .1 .0) ∙ length-replicate {A = ℕ} _ 0) (c .before .dead-entry .ensures) (c .if4 .taken)
+    dead-done L _ _ _ (p .1 .0) (p .1 .1 .0) (p .1 .1 .1 .0) _ _ _ (at-entries .entries .ensures .0) (at-entries .entries .ensures .1 .0)
+    (at-entries .entries .ensures .1 .1) (map-fits at-entries) (tables-accepted at-else2) _ _ (at-ext-rows .ext-rows .ensures .0)
+    (at-ext-rows .ext-rows .ensures .1) (sym (c .before .before .before .before .is-accepted2 .ensures)
+    ∙ not-false _ (c .before .before .before .if3 .left)) _ (at-ext-rows .ext-rows .kept .1 .1 .1 .1 .1 .1 .1 .1 .1 .1 .0
+    ∙ at-entries .entries .kept .1 .1 .1 .1 .1 .1 .1 .0 ∙ ap length (p .1 .1 .0) ∙ length-replicate {A = ℕ} _ 0) (c .before .dead-entry .ensures)
+    (c .if4 .taken)
 
 roots-requires : tie.Need-roots-requires
 roots-requires c κs =
@@ -134,7 +153,9 @@ roots-requires c κs =
     let s = at-start .args in
     let p = at-start .pre in
     let L = input at-start in
-    let b = passed-tables L _ _ _ (p .1 .0) (p .1 .1 .0) (p .1 .1 .1 .0) _ _ _ (at-entries .entries .ensures .0) (at-entries .entries .ensures .1 .0) (at-entries .entries .ensures .1 .1) (map-fits at-entries) (tables-accepted at-else2) in
+    let b =
+    passed-tables L _ _ _ (p .1 .0) (p .1 .1 .0) (p .1 .1 .1 .0) _ _ _ (at-entries .entries .ensures .0) (at-entries .entries .ensures .1 .0)
+    (at-entries .entries .ensures .1 .1) (map-fits at-entries) (tables-accepted at-else2) in
     let ws = widths plain Target (length (s .tbits .now)) [] (s .target .now) in (
       reads-inside L b,
       (
@@ -160,7 +181,12 @@ returns-5 c =
     let at-start = entry at-entries in
     let p = at-start .pre in
     let L = input at-start in
-    roots-done L _ _ _ (p .1 .0) (p .1 .1 .0) (p .1 .1 .1 .0) _ _ _ (at-entries .entries .ensures .0) (at-entries .entries .ensures .1 .0) (at-entries .entries .ensures .1 .1) (map-fits at-entries) (tables-accepted at-else2) _ _ (at-ext-rows .ext-rows .ensures .0) (at-ext-rows .ext-rows .ensures .1) (sym (c .before .before .before .before .before .is-accepted2 .ensures) ∙ not-false _ (c .before .before .before .before .if3 .left)) _ (at-ext-rows .ext-rows .kept .1 .1 .1 .1 .1 .1 .1 .1 .1 .1 .0 ∙ at-entries .entries .kept .1 .1 .1 .1 .1 .1 .1 .0 ∙ ap length (p .1 .1 .0) ∙ length-replicate {A = ℕ} _ 0) (c .before .before .dead-entry .ensures) _ (c .before .if4 .left) (c .roots .ensures)
+    roots-done L _ _ _ (p .1 .0) (p .1 .1 .0) (p .1 .1 .1 .0) _ _ _ (at-entries .entries .ensures .0) (at-entries .entries .ensures .1 .0)
+    (at-entries .entries .ensures .1 .1) (map-fits at-entries) (tables-accepted at-else2) _ _ (at-ext-rows .ext-rows .ensures .0)
+    (at-ext-rows .ext-rows .ensures .1) (sym (c .before .before .before .before .before .is-accepted2 .ensures)
+    ∙ not-false _ (c .before .before .before .before .if3 .left)) _
+    (at-ext-rows .ext-rows .kept .1 .1 .1 .1 .1 .1 .1 .1 .1 .1 .0 ∙ at-entries .entries .kept .1 .1 .1 .1 .1 .1 .1 .0 ∙ ap length (p .1 .1 .0)
+    ∙ length-replicate {A = ℕ} _ 0) (c .before .before .dead-entry .ensures) _ (c .before .if4 .left) (c .roots .ensures)
 
 pub matches-spec : {M : Type 1} → statement M
 matches-spec =

@@ -8,7 +8,11 @@ row-requires : tie.Need-row-requires
 row-requires c κs = search needs
 
 same-const-requires : tie.Need-same-const-requires
-same-const-requires c κs = (c .before .before .before .before .pre .1, rw (c .row .ensures) (c .before .before .before .before .pre .2 _ (c .before .before .before .before .pre .0)))
+same-const-requires c κs = (
+  c .before .before .before .before .pre .1,
+  rw (c .row .ensures)
+      (c .before .before .before .before .pre .2 _ (c .before .before .before .before .pre .0)),
+)
 
 returns : tie.Need-returns
 returns c = c .same-const .ensures ∙ rw (c .before .row .ensures)

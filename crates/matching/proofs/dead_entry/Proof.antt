@@ -31,7 +31,10 @@ dead-class-requires : tie.Need-dead-class-requires Inv-loop μ-loop
 dead-class-requires c κs = search needs
 
 returns : tie.Need-returns Inv-loop μ-loop
-returns c = let s = c .before .before .before .before .before .before .args in sym (first-at (λ j. either (getD (s .cls .now) j 0) 2 3) _ _ (c .before .before .before .loop-test .taken) (sym (c .before .dead-class .ensures) ∙ c .if1 .taken) (c .before .before .before .before .loop .inv .1))
+returns c =
+    let s = c .before .before .before .before .before .before .args in
+    sym (first-at (λ j. either (getD (s .cls .now) j 0) 2 3) _ _ (c .before .before .before .loop-test .taken)
+    (sym (c .before .dead-class .ensures) ∙ c .if1 .taken) (c .before .before .before .before .loop .inv .1))
 
 add-i : tie.Need-add-i Inv-loop μ-loop
 add-i c = omega arith
@@ -43,7 +46,9 @@ loop-again : tie.Need-loop-again Inv-loop μ-loop
 loop-again c = (omega arith, below-more _ _ (c .before .before .before .before .loop .inv .1) (sym (c .before .dead-class .ensures) ∙ c .if1 .left))
 
 returns-2 : tie.Need-returns-2 Inv-loop μ-loop
-returns-2 c = let s = c .before .before .before .args in sym (first-past (λ j. either (getD (s .cls .now) j 0) 2 3) _ _ (c .before .loop .inv .0) (c .loop-test .left) (c .before .loop .inv .1))
+returns-2 c =
+    let s = c .before .before .before .args in
+    sym (first-past (λ j. either (getD (s .cls .now) j 0) 2 3) _ _ (c .before .loop .inv .0) (c .loop-test .left) (c .before .loop .inv .1))
 
 pub dead-entry-spec : {M : Type 1} → statement M
 dead-entry-spec =

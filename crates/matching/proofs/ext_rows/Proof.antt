@@ -27,7 +27,8 @@ start c = let lists = c .before .before .before .before .before .before .before 
 abbrev asked : tie.Start Inv-loop μ-loop → Binding
 asked c =
     let s = c .args in
-    binding (s .source .now) (s .ebits .now) (s .eside .now) (s .map .now) (s .reads .now) (s .calls .now) (s .cargs .now) (s .target .now) (s .tbits .now)
+    binding (s .source .now) (s .ebits .now) (s .eside .now) (s .map .now) (s .reads .now) (s .calls .now) (s .cargs .now) (s .target .now)
+    (s .tbits .now)
 
 abbrev known : tie.Start Inv-loop μ-loop → Noted
 known c = let s = c .args in noted (s .cls .now) (s .ent .now)
@@ -61,7 +62,8 @@ returns c =
     let at-start = start at-row-count in
     let l = at-loop .loop in
     let e = c .before .before .before .before .ext-step .ensures in
-    rows-stop (asked at-start) (known at-start) (l .i) (l .cls) (l .inv .3) (l .inv .2) _ _ (rw (at-row-count .row-count .ensures) at (in-loop .loop-test .taken)) (e .0) (e .1) (rw (c .before .is-accepted .ensures) at (c .if1 .taken))
+    rows-stop (asked at-start) (known at-start) (l .i) (l .cls) (l .inv .3) (l .inv .2) _ _
+    (rw (at-row-count .row-count .ensures) at (in-loop .loop-test .taken)) (e .0) (e .1) (rw (c .before .is-accepted .ensures) at (c .if1 .taken))
 
 add-i : tie.Need-add-i Inv-loop μ-loop
 add-i c = search needs
@@ -77,7 +79,10 @@ loop-again c =
     let at-start = start at-row-count in
     let l = at-loop .loop in
     let e = c .before .before .before .before .ext-step .ensures in
-    let more = rows-more (asked at-start) (known at-start) (l .i) (l .cls) (l .inv .3) (l .inv .2) _ _ (rw (at-row-count .row-count .ensures) at (in-loop .loop-test .taken)) (e .0) (e .1) (rw (c .before .is-accepted .ensures) at (c .if1 .left)) in
+    let more =
+    rows-more (asked at-start) (known at-start) (l .i) (l .cls) (l .inv .3) (l .inv .2) _ _
+    (rw (at-row-count .row-count .ensures) at (in-loop .loop-test .taken)) (e .0) (e .1)
+    (rw (c .before .is-accepted .ensures) at (c .if1 .left)) in
     let k = c .before .before .before .before .ext-step .kept in
     (omega arith, omega (arith, k), more .0, more .1)
 

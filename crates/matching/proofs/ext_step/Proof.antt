@@ -22,7 +22,13 @@ row-count-requires c κs = search needs
 
 returns-2 : tie.Need-returns-2
 unfolding rowAnswer
-returns-2 c = (rw (ne-eqb _ _ (λ z. c .before .before .if1 .left (c .before .before .before .map-at .ensures ∙ z)), le-ltb _ _ (rw (c .before .before .before .map-at .ensures, c .before .row-count .ensures) at (c .if2 .taken))), refl)
+returns-2 c = (
+  rw (
+    ne-eqb _ _ (λ z. c .before .before .if1 .left (c .before .before .before .map-at .ensures ∙ z)),
+    le-ltb _ _ (rw (c .before .before .before .map-at .ensures, c .before .row-count .ensures) at (c .if2 .taken)),
+  ),
+  refl,
+)
 
 row-corr-requires : tie.Need-row-corr-requires
 row-corr-requires c κs =
@@ -39,7 +45,8 @@ unfolding rowAnswer rowClasses
 returns-3 c =
     let m = c .before .before .before .before .before .before .before .map-at .ensures in
     let some = ne-eqb _ _ (λ z. c .before .before .before .before .before .before .if1 .left (m ∙ z)) in
-    let in-range = lt-ltb _ _ (rw (m, c .before .before .before .before .before .row-count .ensures) at (c .before .before .before .before .if2 .left)) in
+    let in-range =
+    lt-ltb _ _ (rw (m, c .before .before .before .before .before .row-count .ensures) at (c .before .before .before .before .if2 .left)) in
     (rw (some, in-range) (c .before .before .row-corr .ensures .0 ∙ rw m), rw some (c .before .before .row-corr .ensures .1 ∙ rw m))
 
 pub ext-step-spec : {M : Type 1} → statement M

@@ -4,7 +4,8 @@ use Rattle.answers.specs.declared.Answer.the-variants.{VarClass, ConstMismatch,
 use Rattle.lists.proofs.Choice.{cond-same}
 use Rattle.lowering.specs.Lowering.{Binding, binding}
 use Rattle.lowering.specs.Matching.{Noted, noted}
-use Rattle.matching.proofs.Rows.{var-answer, var-classes, const-answer, const-classes, select-answer, select-classes, call-answer, call-classes, plain-answer, plain-classes}
+use Rattle.matching.proofs.Rows.{var-answer, var-classes, const-answer, const-classes, select-answer, select-classes, call-answer}
+use Rattle.matching.proofs.Rows.{call-classes, plain-answer, plain-classes}
 use Rattle.matching.proofs.Outcome.{consts-target, const-ready, select-ready, call-ready, plain-ready, outcome}
 use borrow.Author.Needs.{needs}
 use Rattle.matching.proofs.row_corr.Statement.{statement}
@@ -17,7 +18,8 @@ start c = let lists = c .before .before .before .before .before .before .before 
 abbrev asked : tie.Start → Binding
 asked c =
     let s = c .args in
-    binding (s .source .now) (s .ebits .now) (s .eside .now) (s .map .now) (s .reads .now) (s .calls .now) (s .cargs .now) (s .target .now) (s .tbits .now)
+    binding (s .source .now) (s .ebits .now) (s .eside .now) (s .map .now) (s .reads .now) (s .calls .now) (s .cargs .now) (s .target .now)
+    (s .tbits .now)
 
 abbrev known : tie.Start → Noted
 known c = let s = c .args in noted (s .cls .now) (s .ent .now)
@@ -77,7 +79,9 @@ returns c =
     let s = at-start .args in
     let q = at-row .row .ensures in
     let t = c .before .before .before .before .before .match .keys1 in
-    outcome _ _ (VarClass (s .i)) _ _ _ _ _ _ refl (c .before .before .before .var-corr .ensures .0) (c .before .before .before .var-corr .ensures .1) (c .matched .ensures) (var-answer (asked at-start) (known at-start) (s .i) (s .r) _ q t) (var-classes (asked at-start) (known at-start) (s .i) (s .r) _ q t)
+    outcome _ _ (VarClass (s .i)) _ _ _ _ _ _ refl (c .before .before .before .var-corr .ensures .0) (c .before .before .before .var-corr .ensures .1)
+    (c .matched .ensures) (var-answer (asked at-start) (known at-start) (s .i) (s .r) _ q t)
+    (var-classes (asked at-start) (known at-start) (s .i) (s .r) _ q t)
 
 returns-2 : tie.Need-returns-2
 returns-2 c =
@@ -86,7 +90,9 @@ returns-2 c =
     let s = at-start .args in
     let q = at-row .row .ensures in
     let t = c .before .before .match .keys2 in
-    outcome _ _ (ConstMismatch (s .i)) _ _ _ _ _ _ refl (c .before .const-corr .ensures) (sym (cond-same (c .before .const-corr .result) (s .cls .now))) (c .matched2 .ensures) (const-answer (asked at-start) (known at-start) (s .i) (s .r) _ q t) (const-classes (asked at-start) (known at-start) (s .i) (s .r) _ q t)
+    outcome _ _ (ConstMismatch (s .i)) _ _ _ _ _ _ refl (c .before .const-corr .ensures)
+    (sym (cond-same (c .before .const-corr .result) (s .cls .now))) (c .matched2 .ensures)
+    (const-answer (asked at-start) (known at-start) (s .i) (s .r) _ q t) (const-classes (asked at-start) (known at-start) (s .i) (s .r) _ q t)
 
 same-length-2 : tie.Need-same-length-2
 same-length-2 c = search needs
@@ -98,7 +104,9 @@ returns-3 c =
     let s = at-start .args in
     let q = at-row .row .ensures in
     let t = c .before .before .before .before .before .match .keys3 in
-    outcome _ _ (ChainMismatch (s .i)) _ _ _ _ _ _ refl (c .before .before .before .select-corr .ensures .0) (c .before .before .before .select-corr .ensures .1) (c .matched3 .ensures) (select-answer (asked at-start) (known at-start) (s .i) (s .r) _ q t) (select-classes (asked at-start) (known at-start) (s .i) (s .r) _ q t)
+    outcome _ _ (ChainMismatch (s .i)) _ _ _ _ _ _ refl (c .before .before .before .select-corr .ensures .0)
+    (c .before .before .before .select-corr .ensures .1) (c .matched3 .ensures) (select-answer (asked at-start) (known at-start) (s .i) (s .r) _ q t)
+    (select-classes (asked at-start) (known at-start) (s .i) (s .r) _ q t)
 
 same-length-3 : tie.Need-same-length-3
 same-length-3 c = search needs
@@ -110,7 +118,9 @@ returns-4 c =
     let s = at-start .args in
     let q = at-row .row .ensures in
     let t = c .before .before .before .before .before .match .keys4 in
-    outcome _ _ (CallMismatch (s .i)) _ _ _ _ _ _ refl (c .before .before .before .call-corr .ensures .0) (c .before .before .before .call-corr .ensures .1) (c .matched4 .ensures) (call-answer (asked at-start) (known at-start) (s .i) (s .r) _ q t) (call-classes (asked at-start) (known at-start) (s .i) (s .r) _ q t)
+    outcome _ _ (CallMismatch (s .i)) _ _ _ _ _ _ refl (c .before .before .before .call-corr .ensures .0)
+    (c .before .before .before .call-corr .ensures .1) (c .matched4 .ensures) (call-answer (asked at-start) (known at-start) (s .i) (s .r) _ q t)
+    (call-classes (asked at-start) (known at-start) (s .i) (s .r) _ q t)
 
 returns-5 : tie.Need-returns-5
 returns-5 c =
@@ -121,7 +131,9 @@ returns-5 c =
     let q = at-row .row .ensures in
     let n = c .before .before .match .rest in
     let t = plain-ready _ _ (p .0) _ (p .1 .1 .0) _ q (n .0 .0 .0 .1) (n .0 .0 .1) (n .0 .1) (n .1) in
-    outcome _ _ (NodeMismatch (s .i)) _ _ _ _ _ _ refl (c .before .node-corr .ensures) (sym (cond-same (c .before .node-corr .result) (s .cls .now))) (c .matched5 .ensures) (plain-answer (asked at-start) (known at-start) (s .i) (s .r) _ q t) (plain-classes (asked at-start) (known at-start) (s .i) (s .r) _ q t)
+    outcome _ _ (NodeMismatch (s .i)) _ _ _ _ _ _ refl (c .before .node-corr .ensures) (sym (cond-same (c .before .node-corr .result) (s .cls .now)))
+    (c .matched5 .ensures) (plain-answer (asked at-start) (known at-start) (s .i) (s .r) _ q t)
+    (plain-classes (asked at-start) (known at-start) (s .i) (s .r) _ q t)
 
 pub row-corr-spec : {M : Type 1} → statement M
 row-corr-spec =

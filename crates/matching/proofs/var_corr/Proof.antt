@@ -26,7 +26,14 @@ slice-read-if2 c = search needs
 
 returns-2 : tie.Need-returns-2
 unfolding varMatches all
-returns-2 c = (rw (tested-yes _ _ (rw (c .before .before .before .before .row .ensures) at (c .before .before .before .row-is-var .ensures)) (c .before .before .if1 .left), ne-eqb _ _ (c .if2 .taken)), refl)
+returns-2 c = (
+  rw (
+    tested-yes _ _ (rw (c .before .before .before .before .row .ensures) at (c .before .before .before .row-is-var .ensures))
+        (c .before .before .if1 .left),
+    ne-eqb _ _ (c .if2 .taken),
+  ),
+  refl,
+)
 
 mul-cls : tie.Need-mul-cls
 mul-cls c = search needs
@@ -39,7 +46,14 @@ same-length c = search needs
 
 returns-3 : tie.Need-returns-3
 unfolding varMatches all
-returns-3 c = (rw (tested-yes _ _ (rw (c .before .before .before .before .row .ensures) at (c .before .before .before .row-is-var .ensures)) (c .before .before .if1 .left), eq-eqb _ _ (c .if2 .left)), refl)
+returns-3 c = (
+  rw (
+    tested-yes _ _ (rw (c .before .before .before .before .row .ensures) at (c .before .before .before .row-is-var .ensures))
+        (c .before .before .if1 .left),
+    eq-eqb _ _ (c .if2 .left),
+  ),
+  refl,
+)
 
 pub var-corr-spec : {M : Type 1} → statement M
 var-corr-spec =

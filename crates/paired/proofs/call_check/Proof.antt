@@ -64,7 +64,8 @@ returns c =
     let l0 = l2 .before in
     let s = l0 .before .before .before .before .before .before .before .before .args in
     check-call (s .strict) (s .second) (s .words .now) (s .ebits .now) (s .tbits .now) (s .ws0 .now) (s .ws1 .now) (s .classes .now) (s .entries .now)
-    (l0 .given .ensures .0) (l2 .given2 .ensures .0) (l3 .given3 .ensures .0) (l4 .given4 .ensures .0) (l5 .given5 .ensures .0) (l6 .given6 .ensures .0)
+    (l0 .given .ensures .0) (l2 .given2 .ensures .0) (l3 .given3 .ensures .0) (l4 .given4 .ensures .0) (l5 .given5 .ensures .0)
+    (l6 .given6 .ensures .0)
     (l7 .given7 .ensures .0) (l8 .given8 .ensures .0) (l10 .given9 .ensures .0) (l11 .given10 .ensures .0) (call .check .ensures .0)
 
 pub call-check-spec : {M : Type 1} → statement M

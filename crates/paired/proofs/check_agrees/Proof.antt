@@ -83,7 +83,8 @@ returns-4 c =
     let ebits = at-copy-bytes .copy-bytes .ensures .1 (not-false _ (else2 .if2 .left)) ∙ at-given .given .ensures .0 in
     let tbits = at-copy-bytes2 .copy-bytes2 .ensures .1 (not-false _ (else3 .if3 .left)) ∙ at-given2 .given2 .ensures .0 in
     λ e. check-at (a .strict) (a .second) w at (at-lent .lent-at .ensures) (sym (at-has-shape .has-shape .ensures) ∙ not-false _ (else1 .if1 .left))
-    (check-bits (a .strict) (a .second) w (given w at) (given w (at + 1)) (given w (at + 2)) (given w (at + 3)) ebits tbits (c .lowering-agrees .ensures e))
+    (check-bits (a .strict) (a .second) w (given w at) (given w (at + 1)) (given w (at + 2)) (given w (at + 3)) ebits tbits
+    (c .lowering-agrees .ensures e))
 
 pub check-agrees-spec : {M : Type 1} → statement M
 check-agrees-spec =

@@ -94,7 +94,8 @@ returns c =
     let ws1 = at-lend2 .lend2 .ensures .1 ∙ at-given2 .given2 .ensures .0 in
     let classes = at-lend3 .lend3 .ensures .1 ∙ at-given3 .given3 .ensures .0 in
     let entries = at-lend4 .lend4 .ensures .1 ∙ at-given4 .given4 .ensures .0 in
-    λ e. check-lent (a .strict) (a .second) (a .words .now) (a .ebits .now) (a .tbits .now) ws0 ws1 classes entries (at-same-check .same-check .ensures e)
+    λ e. check-lent (a .strict) (a .second) (a .words .now) (a .ebits .now) (a .tbits .now) ws0 ws1 classes entries
+    (at-same-check .same-check .ensures e)
 
 pub lowering-agrees-spec : {M : Type 1} → statement M
 lowering-agrees-spec =

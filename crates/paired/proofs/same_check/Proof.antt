@@ -67,7 +67,8 @@ returns-3 c =
     let else1 = at-same-both .before .before .before in
     let at-same-answer = else1 .before in
     let at-call-check = at-same-answer .before .before .before .before .before .before .before .before .before in
-    λ e. same-four (at-call-check .call-check .ensures) (at-same-answer .same-answer .ensures .0 (not-false _ (else1 .if1 .left))) (at-same-both .same-both .ensures (not-false _ (else2 .if2 .left))) (c .same-both2 .ensures e)
+    λ e. same-four (at-call-check .call-check .ensures) (at-same-answer .same-answer .ensures .0 (not-false _ (else1 .if1 .left)))
+    (at-same-both .same-both .ensures (not-false _ (else2 .if2 .left))) (c .same-both2 .ensures e)
 
 pub same-check-spec : {M : Type 1} → statement M
 same-check-spec =

@@ -24,12 +24,16 @@ loop-holds : tie.Need-loop-holds Inv-loop μ-loop
 loop-holds c = (omega arith, record { kept = rw sub-zero })
 
 array-cong-for-requires : tie.Need-array-cong-for-requires Inv-loop μ-loop
-array-cong-for-requires c κs = (c .before .before .before .before .before .before .before .pre .0, (c .before .before .before .before .before .before .before .pre .1, rw (c .before .before .read-count .ensures) at (c .loop-test .taken)))
+array-cong-for-requires c κs = (
+  c .before .before .before .before .before .before .before .pre .0,
+  (c .before .before .before .before .before .before .before .pre .1, rw (c .before .before .read-count .ensures) at (c .loop-test .taken)),
+)
 
 returns : tie.Need-returns Inv-loop μ-loop
 returns c =
     let at-loop = c .before .before .before .before in
-    table-stop (at-loop .loop .inv .1) (rw (at-loop .before .read-count .ensures) at (c .before .before .before .loop-test .taken)) _ (c .before .before .array-cong-for .ensures) (not-true _ (c .if1 .taken))
+    table-stop (at-loop .loop .inv .1) (rw (at-loop .before .read-count .ensures) at (c .before .before .before .loop-test .taken)) _
+    (c .before .before .array-cong-for .ensures) (not-true _ (c .if1 .taken))
 
 add-k : tie.Need-add-k Inv-loop μ-loop
 add-k c = omega arith
@@ -41,7 +45,8 @@ loop-again : tie.Need-loop-again Inv-loop μ-loop
 loop-again c =
     let at-loop = c .before .before .before .before in (
       omega arith,
-      table-on (at-loop .loop .inv .1) (rw (at-loop .before .read-count .ensures) at (c .before .before .before .loop-test .taken)) _ (c .before .before .array-cong-for .ensures) (not-false _ (c .if1 .left)),
+      table-on (at-loop .loop .inv .1) (rw (at-loop .before .read-count .ensures) at (c .before .before .before .loop-test .taken)) _
+          (c .before .before .array-cong-for .ensures) (not-false _ (c .if1 .left)),
     )
 
 returns-2 : tie.Need-returns-2 Inv-loop μ-loop

@@ -123,7 +123,9 @@ returns : tie.Need-returns Inv-loop μ-loop
 returns c =
     let in-loop = c .before .before .before .before .before .before in
     let at-loop = in-loop .before in
-    row-stop (at-loop .loop .inv .1) (rw (counted at-loop .read-count .ensures) at (in-loop .loop-test .taken)) (sym (needs-is (c .before .before .before .before .before)) ∙ c .before .before .before .before .if1 .taken) (sym (stands-is (c .before)) ∙ not-true _ (c .if2 .taken))
+    row-stop (at-loop .loop .inv .1) (rw (counted at-loop .read-count .ensures) at (in-loop .loop-test .taken))
+    (sym (needs-is (c .before .before .before .before .before)) ∙ c .before .before .before .before .if1 .taken)
+    (sym (stands-is (c .before)) ∙ not-true _ (c .if2 .taken))
 
 add-idx : tie.Need-add-idx Inv-loop μ-loop
 add-idx c = omega (arith, root-inside _ _ _ _ (sym (stands-is (c .before)) ∙ not-false _ (c .if2 .left)))

@@ -36,7 +36,8 @@ returns-2 c =
     let m : rowCount Target (s .target .now) ≤ MAX = omega arith in
     rw (lt-ltb _ _ (c .before .before .before .if1 .left))
     (c .is-eq .ensures
-    ∙ rw (c .before .implication-shape .ensures) (sym (sym (last-test _) ∙ by-antecedent (s .target .now) (λ _. s .xp) (λ _. s .xq) 1 _ _ _ (omega arith) m)))
+    ∙ rw (c .before .implication-shape .ensures) (sym (sym (last-test _)
+    ∙ by-antecedent (s .target .now) (λ _. s .xp) (λ _. s .xq) 1 _ _ _ (omega arith) m)))
 
 pub read-stands-spec : {M : Type 1} → statement M
 read-stands-spec =

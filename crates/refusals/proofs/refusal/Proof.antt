@@ -22,7 +22,11 @@ row-count-requires c κs = search needs
 returns : tie.Need-returns
 returns c =
     let row = c .before .before in
-    rw (row .bad-row .ensures, row .before .graph-number .ensures, lt-ltb _ _ (rw (row .bad-row .ensures, c .before .row-count .ensures) at (c .if1 .taken)))
+    rw (
+      row .bad-row .ensures,
+      row .before .graph-number .ensures,
+      lt-ltb _ _ (rw (row .bad-row .ensures, c .before .row-count .ensures) at (c .if1 .taken)),
+    )
 
 -- the rows are good, then the bits
 abbrev start : tie.Else1 → tie.Start
@@ -37,7 +41,12 @@ bad-bit-requires c κs = search needs
 returns-2 : tie.Need-returns-2
 returns-2 c =
     let rows = c .before .before in
-    rw (c .before .bad-bit .ensures, rows .before .before .before .graph-number .ensures, rows-good rows, lt-ltb _ _ (rw (c .before .bad-bit .ensures) at (c .if2 .taken)))
+    rw (
+      c .before .bad-bit .ensures,
+      rows .before .before .before .graph-number .ensures,
+      rows-good rows,
+      lt-ltb _ _ (rw (c .before .bad-bit .ensures) at (c .if2 .taken)),
+    )
 
 bits-good : (c : tie.Else2) → (let s = start (c .before .before) .args in ltb (badBit (s .bits .now)) (length (s .bits .now)) ≡ false)
 bits-good c = le-ltb _ _ (rw (c .before .bad-bit .ensures) at (c .if2 .left))

@@ -51,7 +51,9 @@ returns c =
     let o = call c .judge .ensures in
     let s = entry (lent (call c)) in
     let k = s .args in
-    let m = book-means (k .strict) _ _ w (k .ws0 .now) (k .ws1 .now) (k .classes .now) (k .entries .now) _ _ _ _ (k .book .now) (k .words .now) (slice s) o in
+    let m =
+    book-means (k .strict) _ _ w (k .ws0 .now) (k .ws1 .now) (k .classes .now) (k .entries .now) _ _ _ _ (k .book .now) (k .words .now) (slice s)
+    o in
     (rw w (ap toldOf o), m)
 
 pub judge-spec : {M : Type 1} → statement M

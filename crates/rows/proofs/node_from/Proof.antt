@@ -37,10 +37,38 @@ returns-11 : tie.Need-returns-11
 returns-11 c = rw (c .match .keys11)
 
 returns-12 : tie.Need-returns-12
-returns-12 c = rw (ne-eqb _ _ (c .before .match .rest .0 .0 .0 .0 .0 .0 .0 .0 .0 .0 .1), ne-eqb _ _ (c .before .match .rest .0 .0 .0 .0 .0 .0 .0 .0 .0 .1), ne-eqb _ _ (c .before .match .rest .0 .0 .0 .0 .0 .0 .0 .0 .1), ne-eqb _ _ (c .before .match .rest .0 .0 .0 .0 .0 .0 .0 .1), ne-eqb _ _ (c .before .match .rest .0 .0 .0 .0 .0 .0 .1), ne-eqb _ _ (c .before .match .rest .0 .0 .0 .0 .0 .1), ne-eqb _ _ (c .before .match .rest .0 .0 .0 .0 .1), ne-eqb _ _ (c .before .match .rest .0 .0 .0 .1), ne-eqb _ _ (c .before .match .rest .0 .0 .1), ne-eqb _ _ (c .before .match .rest .0 .1), ne-eqb _ _ (c .before .match .rest .1), lt-ltb _ _ (c .if1 .taken))
+returns-12 c =
+    rw (
+      ne-eqb _ _ (c .before .match .rest .0 .0 .0 .0 .0 .0 .0 .0 .0 .0 .1),
+      ne-eqb _ _ (c .before .match .rest .0 .0 .0 .0 .0 .0 .0 .0 .0 .1),
+      ne-eqb _ _ (c .before .match .rest .0 .0 .0 .0 .0 .0 .0 .0 .1),
+      ne-eqb _ _ (c .before .match .rest .0 .0 .0 .0 .0 .0 .0 .1),
+      ne-eqb _ _ (c .before .match .rest .0 .0 .0 .0 .0 .0 .1),
+      ne-eqb _ _ (c .before .match .rest .0 .0 .0 .0 .0 .1),
+      ne-eqb _ _ (c .before .match .rest .0 .0 .0 .0 .1),
+      ne-eqb _ _ (c .before .match .rest .0 .0 .0 .1),
+      ne-eqb _ _ (c .before .match .rest .0 .0 .1),
+      ne-eqb _ _ (c .before .match .rest .0 .1),
+      ne-eqb _ _ (c .before .match .rest .1),
+      lt-ltb _ _ (c .if1 .taken),
+    )
 
 returns-13 : tie.Need-returns-13
-returns-13 c = rw (ne-eqb _ _ (c .before .match .rest .0 .0 .0 .0 .0 .0 .0 .0 .0 .0 .1), ne-eqb _ _ (c .before .match .rest .0 .0 .0 .0 .0 .0 .0 .0 .0 .1), ne-eqb _ _ (c .before .match .rest .0 .0 .0 .0 .0 .0 .0 .0 .1), ne-eqb _ _ (c .before .match .rest .0 .0 .0 .0 .0 .0 .0 .1), ne-eqb _ _ (c .before .match .rest .0 .0 .0 .0 .0 .0 .1), ne-eqb _ _ (c .before .match .rest .0 .0 .0 .0 .0 .1), ne-eqb _ _ (c .before .match .rest .0 .0 .0 .0 .1), ne-eqb _ _ (c .before .match .rest .0 .0 .0 .1), ne-eqb _ _ (c .before .match .rest .0 .0 .1), ne-eqb _ _ (c .before .match .rest .0 .1), ne-eqb _ _ (c .before .match .rest .1), le-ltb _ _ (c .if1 .left))
+returns-13 c =
+    rw (
+      ne-eqb _ _ (c .before .match .rest .0 .0 .0 .0 .0 .0 .0 .0 .0 .0 .1),
+      ne-eqb _ _ (c .before .match .rest .0 .0 .0 .0 .0 .0 .0 .0 .0 .1),
+      ne-eqb _ _ (c .before .match .rest .0 .0 .0 .0 .0 .0 .0 .0 .1),
+      ne-eqb _ _ (c .before .match .rest .0 .0 .0 .0 .0 .0 .0 .1),
+      ne-eqb _ _ (c .before .match .rest .0 .0 .0 .0 .0 .0 .1),
+      ne-eqb _ _ (c .before .match .rest .0 .0 .0 .0 .0 .1),
+      ne-eqb _ _ (c .before .match .rest .0 .0 .0 .0 .1),
+      ne-eqb _ _ (c .before .match .rest .0 .0 .0 .1),
+      ne-eqb _ _ (c .before .match .rest .0 .0 .1),
+      ne-eqb _ _ (c .before .match .rest .0 .1),
+      ne-eqb _ _ (c .before .match .rest .1),
+      le-ltb _ _ (c .if1 .left),
+    )
 
 pub node-from-spec : {M : Type 1} → statement M
 node-from-spec =

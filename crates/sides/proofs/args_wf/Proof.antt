@@ -19,7 +19,8 @@ returns-2 c =
 returns-3 : tie.Need-returns-3
 returns-3 c =
     let s = c .before .before .before .before .before .args in
-    sym (entries-over 1 (argBad (length (s .ws .now)) (s .side .now) (s .s)) (s .side .now) (s .s) (s .k) (c .before .before .if1 .left) (omega arith))
+    sym (entries-over 1 (argBad (length (s .ws .now)) (s .side .now) (s .s)) (s .side .now) (s .s) (s .k) (c .before .before .if1 .left)
+    (omega arith))
 
 list-wf-requires : tie.Need-list-wf-requires
 list-wf-requires c κs = search needs
@@ -27,7 +28,8 @@ list-wf-requires c κs = search needs
 returns-4 : tie.Need-returns-4
 returns-4 c =
     let s = c .before .before .before .before .before .before .args in
-    c .list-wf .ensures ∙ sym (entries-in 1 (argBad (length (s .ws .now)) (s .side .now) (s .s)) (s .side .now) (s .s) (s .k) (c .before .before .before .if1 .left) (omega arith))
+    c .list-wf .ensures ∙ sym (entries-in 1 (argBad (length (s .ws .now)) (s .side .now) (s .s)) (s .side .now) (s .s) (s .k)
+    (c .before .before .before .if1 .left) (omega arith))
 
 pub args-wf-spec : {M : Type 1} → statement M
 args-wf-spec = tie.close (tie.spec returns returns-2 returns-3 list-wf-requires returns-4)

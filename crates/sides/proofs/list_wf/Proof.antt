@@ -31,7 +31,10 @@ shared-slice-read-if1 : tie.Need-shared-slice-read-if1 Inv-loop μ-loop
 shared-slice-read-if1 c = omega arith
 
 returns : tie.Need-returns Inv-loop μ-loop
-returns c = let s = c .before .before .before .before .args in sym (none-no (argBad (s .n) (s .side .now) (s .s)) _ _ (c .before .before .loop-test .taken) (le-leb _ _ (c .if1 .taken)) (c .before .before .before .loop .inv .1))
+returns c =
+    let s = c .before .before .before .before .args in
+    sym (none-no (argBad (s .n) (s .side .now) (s .s)) _ _ (c .before .before .loop-test .taken) (le-leb _ _ (c .if1 .taken))
+    (c .before .before .before .loop .inv .1))
 
 add-l : tie.Need-add-l Inv-loop μ-loop
 add-l c = omega arith
@@ -43,7 +46,8 @@ loop-again : tie.Need-loop-again Inv-loop μ-loop
 loop-again c = (omega arith, below-more _ _ (c .before .before .before .loop .inv .1) (lt-leb _ _ (c .if1 .left)))
 
 returns-2 : tie.Need-returns-2 Inv-loop μ-loop
-returns-2 c = let s = c .before .before .args in sym (none-yes (argBad (s .n) (s .side .now) (s .s)) _ (λ j h. c .before .loop .inv .1 j (omega arith)))
+returns-2 c =
+    let s = c .before .before .args in sym (none-yes (argBad (s .n) (s .side .now) (s .s)) _ (λ j h. c .before .loop .inv .1 j (omega arith)))
 
 pub list-wf-spec : {M : Type 1} → statement M
 list-wf-spec =

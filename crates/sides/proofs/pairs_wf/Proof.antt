@@ -24,7 +24,10 @@ pair-bad-requires : tie.Need-pair-bad-requires Inv-loop μ-loop
 pair-bad-requires c κs = omega arith
 
 returns : tie.Need-returns Inv-loop μ-loop
-returns c = let s = c .before .before .before .before .before .before .args in sym (none-no (pairBad (s .iw) (s .cw) (s .ws .now) (s .side .now) (s .s)) _ _ (c .before .before .loop-test .taken) (sym (c .before .pair-bad .ensures) ∙ c .if1 .taken) (c .before .before .before .loop .inv .1))
+returns c =
+    let s = c .before .before .before .before .before .before .args in
+    sym (none-no (pairBad (s .iw) (s .cw) (s .ws .now) (s .side .now) (s .s)) _ _ (c .before .before .loop-test .taken)
+    (sym (c .before .pair-bad .ensures) ∙ c .if1 .taken) (c .before .before .before .loop .inv .1))
 
 add-l : tie.Need-add-l Inv-loop μ-loop
 add-l c = omega arith
@@ -36,7 +39,9 @@ loop-again : tie.Need-loop-again Inv-loop μ-loop
 loop-again c = (omega arith, below-more _ _ (c .before .before .before .loop .inv .1) (sym (c .before .pair-bad .ensures) ∙ c .if1 .left))
 
 returns-2 : tie.Need-returns-2 Inv-loop μ-loop
-returns-2 c = let s = c .before .before .before .before .args in sym (none-yes (pairBad (s .iw) (s .cw) (s .ws .now) (s .side .now) (s .s)) _ (λ j h. c .before .loop .inv .1 j (omega arith)))
+returns-2 c =
+    let s = c .before .before .before .before .args in
+    sym (none-yes (pairBad (s .iw) (s .cw) (s .ws .now) (s .side .now) (s .s)) _ (λ j h. c .before .loop .inv .1 j (omega arith)))
 
 pub pairs-wf-spec : {M : Type 1} → statement M
 pairs-wf-spec =

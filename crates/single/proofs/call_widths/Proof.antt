@@ -25,7 +25,8 @@ returns c =
     let side = table .before in
     let rows = side .before .before in
     let a = rows .before .before .before .before .args in
-    source-call (a .second) (a .words .now) (a .bits .now) (a .widths .now) (rows .given .ensures .0) (side .given2 .ensures .0) (table .given3 .ensures .0) (side .before .if1 .taken)
+    source-call (a .second) (a .words .now) (a .bits .now) (a .widths .now) (rows .given .ensures .0) (side .given2 .ensures .0)
+    (table .given3 .ensures .0) (side .before .if1 .taken)
     (c .before .before .source-widths .ensures)
 
 gilfrunt-target-widths-requires : tie.Need-gilfrunt-target-widths-requires
@@ -35,7 +36,10 @@ same-length-2 : tie.Need-same-length-2
 same-length-2 c = search needs
 
 returns-2 : tie.Need-returns-2
-returns-2 c = let a = c .before .before .before .before .before .before .before .before .before .args in target-call (a .second) (a .words .now) (a .bits .now) (a .widths .now) (c .before .before .before .before .before .given .ensures .0) (c .before .before .before .before .if1 .left) (c .before .before .gilfrunt-target-widths .ensures)
+returns-2 c =
+    let a = c .before .before .before .before .before .before .before .before .before .args in
+    target-call (a .second) (a .words .now) (a .bits .now) (a .widths .now) (c .before .before .before .before .before .given .ensures .0)
+    (c .before .before .before .before .if1 .left) (c .before .before .gilfrunt-target-widths .ensures)
 
 pub call-widths-spec : {M : Type 1} → statement M
 call-widths-spec =

@@ -33,8 +33,13 @@ returns-2 : tie.Need-returns-2
 returns-2 c =
     let w = c .before .before .before .before .before .before .before .args .words .now in
     let widths = ap (λ (x : List ℕ). wordsOf (rootsAnswer x (given w 1))) (sym (c .before .before .before .given .ensures .0)) in
-    let roots = ap (λ (x : List ℕ). wordsOf (rootsAnswer (c .before .before .before .given .result .now) x)) (sym (c .before .before .given2 .ensures .0)) in
-    λ e. (sym (c .before .before .before .before .before .has-shape .ensures) ∙ not-false _ (c .before .before .before .before .if1 .left), widths ∙ roots ∙ sym (c .before .gilfrunt-roots .ensures) ∙ c .same-answer .ensures .0 e)
+    let roots =
+    ap (λ (x : List ℕ). wordsOf (rootsAnswer (c .before .before .before .given .result .now) x)) (sym (c .before .before .given2 .ensures .0)) in
+    λ e. (
+      sym (c .before .before .before .before .before .has-shape .ensures) ∙ not-false _ (c .before .before .before .before .if1 .left),
+      widths
+          ∙ roots ∙ sym (c .before .gilfrunt-roots .ensures) ∙ c .same-answer .ensures .0 e,
+    )
 
 pub roots-agree-spec : {M : Type 1} → statement M
 roots-agree-spec =

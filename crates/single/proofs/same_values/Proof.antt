@@ -46,7 +46,8 @@ returns-2 c =
     let start = at-given .before .before .before .before .before in
     let a = start .args in
     λ e. values-call (a .words .now) (a .bits .now) (a .widths .now) (a .numbers .now) (at-given .given .ensures .0) (at-given2 .given2 .ensures .0)
-    (same-two (at-gilfrunt-values .gilfrunt-values .ensures) (at-same-answer .same-answer .ensures .0 (not-false _ (else1 .if1 .left))) (c .same-both .ensures e))
+    (same-two (at-gilfrunt-values .gilfrunt-values .ensures) (at-same-answer .same-answer .ensures .0 (not-false _ (else1 .if1 .left)))
+    (c .same-both .ensures e))
 
 pub same-values-spec : {M : Type 1} → statement M
 same-values-spec =

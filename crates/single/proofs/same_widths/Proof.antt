@@ -25,7 +25,9 @@ same-length-2 : tie.Need-same-length-2
 same-length-2 c = search needs
 
 returns-2 : tie.Need-returns-2
-returns-2 c = λ e. same-one (c .before .before .before .before .before .before .call-widths .ensures) (c .before .before .before .same-answer .ensures .0 (not-false _ (c .before .before .if1 .left))) (c .same-lent .ensures .0 e)
+returns-2 c =
+    λ e. same-one (c .before .before .before .before .before .before .call-widths .ensures)
+    (c .before .before .before .same-answer .ensures .0 (not-false _ (c .before .before .if1 .left))) (c .same-lent .ensures .0 e)
 
 pub same-widths-spec : {M : Type 1} → statement M
 same-widths-spec =

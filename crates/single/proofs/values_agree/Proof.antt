@@ -81,7 +81,10 @@ returns-3 c =
     let bits = at-copy-bytes .copy-bytes .ensures .1 (not-false _ (else2 .if2 .left)) ∙ at-given .given .ensures .0 in
     let widths = at-lend .lend .ensures .1 ∙ at-given2 .given2 .ensures .0 in
     let numbers = at-lend2 .lend2 .ensures .1 ∙ at-given3 .given3 .ensures .0 in
-    λ e. (sym (at-has-shape .has-shape .ensures) ∙ not-false _ (else1 .if1 .left), values-copied (given w 0) (given w 2) bits widths numbers (c .before .before .same-values .ensures e))
+    λ e. (
+      sym (at-has-shape .has-shape .ensures) ∙ not-false _ (else1 .if1 .left),
+      values-copied (given w 0) (given w 2) bits widths numbers (c .before .before .same-values .ensures e),
+    )
 
 pub values-agree-spec : {M : Type 1} → statement M
 values-agree-spec =

@@ -65,7 +65,10 @@ returns-3 c =
     let a = start .args in
     let bits = at-copy-bytes .copy-bytes .ensures .1 (not-false _ (else2 .if2 .left)) ∙ at-given .given .ensures .0 in
     let lent = at-lend .lend .ensures .1 ∙ at-given2 .given2 .ensures .0 in
-    λ e. (sym (at-has-shape .has-shape .ensures) ∙ not-false _ (else1 .if1 .left), widths-copied (a .source) (a .second) (a .words .now) bits lent (c .before .same-widths .ensures e))
+    λ e. (
+      sym (at-has-shape .has-shape .ensures) ∙ not-false _ (else1 .if1 .left),
+      widths-copied (a .source) (a .second) (a .words .now) bits lent (c .before .same-widths .ensures e),
+    )
 
 pub widths-agree-spec : {M : Type 1} → statement M
 widths-agree-spec =

@@ -72,7 +72,8 @@ returns-3 c =
     let n : length t ≡ sortCount t * 3 = whole t (p .pre) in
     let b = q .lower-bound .ensures in
     listed-sort t (p .args .array) (q .lower-bound .result)
-    (listed-at t (p .args .array) (q .lower-bound .result) (b .1) (λ j l h. b .2 j l (omega (arith, n, h))) (omega (arith, n, c .before .before .before .before .if1 .left))
+    (listed-at t (p .args .array) (q .lower-bound .result) (b .1) (λ j l h. b .2 j l (omega (arith, n, h)))
+    (omega (arith, n, c .before .before .before .before .if1 .left))
     (c .before .before .if2 .left))
 
 pub listed-spec : {M : Type 1} → statement M

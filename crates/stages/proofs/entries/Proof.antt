@@ -29,8 +29,11 @@ returns c =
     let at-start = at-read-entries .before .before .before .before .before .before .before .before .before .before .before in
     let s = at-start .args in
     let σ = sortsOf (edition (s .second) (s .sorts .now)) in
-    let r = at-read-entries .read-entries .ensures in
-    (ap ReadTable (r .0) ∙ sym (read-5 σ (entries (s .reads .now) (s .calls .now) (s .cargs .now)) (s .target .now) (s .ws .now) (s .cls .now) (rw (r .0, c .before .read-count .ensures) at (c .if1 .taken))), (λ h. no-way (sym h), λ h. no-way (sym h)))
+    let r = at-read-entries .read-entries .ensures in (
+      ap ReadTable (r .0) ∙ sym (read-5 σ (entries (s .reads .now) (s .calls .now) (s .cargs .now)) (s .target .now) (s .ws .now) (s .cls .now)
+          (rw (r .0, c .before .read-count .ensures) at (c .if1 .taken))),
+      (λ h. no-way (sym h), λ h. no-way (sym h)),
+    )
 
 call-entries-requires : tie.Need-call-entries-requires
 call-entries-requires c κs = search needs
@@ -54,13 +57,17 @@ returns-2 c =
     let s = at-start .args in
     let σ = sortsOf (edition (s .second) (s .sorts .now)) in
     let r = at-read-entries .read-entries .ensures in
-    let a : readCount (s .reads .now) ≤ badRead σ (s .reads .now) (s .target .now) (s .ws .now) (s .cls .now) = rw (r .0, at-read-count .read-count .ensures) at (at-else1 .if1 .left) in
+    let a : readCount (s .reads .now) ≤ badRead σ (s .reads .now) (s .target .now) (s .ws .now) (s .cls .now) =
+    rw (r .0, at-read-count .read-count .ensures) at (at-else1 .if1 .left) in
     let all = all-reads σ (s .reads .now) (s .target .now) (s .ws .now) (s .cls .now) a in
     let marked = rw (r .0, all) at (r .1 .0) in
     let offs = rw (r .0, all) at (r .1 .1) in
     let k = at-call-entries .call-entries .ensures in
-    let bad = rw marked at (k .0) in
-    (ap CallTable bad ∙ sym (call-6 σ (entries (s .reads .now) (s .calls .now) (s .cargs .now)) (s .target .now) (s .ws .now) (s .cls .now) a (rw (bad, c .before .call-count .ensures) at (c .if2 .taken))), (λ h. no-way (sym h), λ h. no-way (sym h)))
+    let bad = rw marked at (k .0) in (
+      ap CallTable bad ∙ sym (call-6 σ (entries (s .reads .now) (s .calls .now) (s .cargs .now)) (s .target .now) (s .ws .now) (s .cls .now) a
+          (rw (bad, c .before .call-count .ensures) at (c .if2 .taken))),
+      (λ h. no-way (sym h), λ h. no-way (sym h)),
+    )
 
 same-length-5 : tie.Need-same-length-5
 same-length-5 c = search needs
@@ -78,15 +85,18 @@ returns-3 c =
     let s = at-start .args in
     let σ = sortsOf (edition (s .second) (s .sorts .now)) in
     let r = at-read-entries .read-entries .ensures in
-    let a : readCount (s .reads .now) ≤ badRead σ (s .reads .now) (s .target .now) (s .ws .now) (s .cls .now) = rw (r .0, at-read-count .read-count .ensures) at (at-else1 .if1 .left) in
+    let a : readCount (s .reads .now) ≤ badRead σ (s .reads .now) (s .target .now) (s .ws .now) (s .cls .now) =
+    rw (r .0, at-read-count .read-count .ensures) at (at-else1 .if1 .left) in
     let all = all-reads σ (s .reads .now) (s .target .now) (s .ws .now) (s .cls .now) a in
     let marked = rw (r .0, all) at (r .1 .0) in
     let offs = rw (r .0, all) at (r .1 .1) in
     let k = at-call-entries .call-entries .ensures in
     let bad = rw marked at (k .0) in
     let b = rw (bad, c .before .call-count .ensures) at (c .if2 .left) in
-    let every = bad ∙ all-calls (s .calls .now) (s .cargs .now) (s .target .now) (s .ws .now) _ b in
-    (sym (tables-good σ (entries (s .reads .now) (s .calls .now) (s .cargs .now)) (s .target .now) (s .ws .now) (s .cls .now) a b), (λ h. k .1 .0 ∙ rw (marked, every), λ h. k .1 .1 ∙ rw (offs, every)))
+    let every = bad ∙ all-calls (s .calls .now) (s .cargs .now) (s .target .now) (s .ws .now) _ b in (
+      sym (tables-good σ (entries (s .reads .now) (s .calls .now) (s .cargs .now)) (s .target .now) (s .ws .now) (s .cls .now) a b),
+      (λ h. k .1 .0 ∙ rw (marked, every), λ h. k .1 .1 ∙ rw (offs, every)),
+    )
 
 pub entries-spec : {M : Type 1} → statement M
 entries-spec =

@@ -15,7 +15,8 @@ use Rattle.tables.proofs.table_entries.Statement.{statement}
 use Rattle.tables.proofs.table_entries.Tie as tie
 
 abbrev Inv-loop : tie.InvT-loop
-Inv-loop which second w class table beside target ws cls₀ ent₀ m off₀ k₀ cls ent off k = Marked table w class (good which second table beside target ws) cls₀ ent₀ cls ent off k
+Inv-loop which second w class table beside target ws cls₀ ent₀ m off₀ k₀ cls ent off k =
+    Marked table w class (good which second table beside target ws) cls₀ ent₀ cls ent off k
 
 abbrev μ-loop : tie.MeasureT-loop
 μ-loop which second w class table beside target ws cls₀ ent₀ m off₀ k₀ cls ent off k = length table - off
@@ -37,14 +38,24 @@ test a = let s = start a .args in good (s .which) (s .second) (s .table .now) (s
 loop-holds : tie.Need-loop-holds Inv-loop μ-loop
 loop-holds c =
     let s = c .before .before .before .before .before .before .args in
-    marked-none (s .table .now) (s .w) (s .class) (good (s .which) (s .second) (s .table .now) (s .beside .now) (s .target .now) (s .ws .now)) (s .cls .now) (s .ent .now)
+    marked-none (s .table .now) (s .w) (s .class) (good (s .which) (s .second) (s .table .now) (s .beside .now) (s .target .now) (s .ws .now))
+    (s .cls .now) (s .ent .now)
 
 entry-good-requires : tie.Need-entry-good-requires Inv-loop μ-loop
 entry-good-requires c κs =
     let a = c .before .before in
     let s = start a in
-    let i = a .loop .inv in
-    ((s .pre .0, i .0, omega arith), (s .pre .1 .0, (args-within (s .args .which) (s .args .second) _ _ (s .args .target .now) (s .args .ws .now) _ _ (i .6), i .2 ∙ s .pre .1 .1 .0)))
+    let i = a .loop .inv in (
+      (s .pre .0, i .0, omega arith),
+      (
+        s .pre .1 .0,
+        (
+          args-within (s .args .which) (s .args .second) _ _ (s .args .target .now) (s .args .ws .now) _ _
+              (i .6),
+          i .2 ∙ s .pre .1 .1 .0,
+        ),
+      ),
+    )
 
 same-length : tie.Need-same-length Inv-loop μ-loop
 same-length c = search needs
@@ -68,7 +79,8 @@ returns : tie.Need-returns Inv-loop μ-loop
 returns c =
     let s = start (failed c) .args in
     let l = failed c .loop in
-    marked-stop (s .table .now) (s .w) (s .class) (test (failed c)) (s .cls .now) (s .ent .now) (l .cls) (l .ent) (l .off) (l .k) (l .inv) _ (counts (c .before .before .before)) (c .before .entry-good .ensures) (c .if1 .taken)
+    marked-stop (s .table .now) (s .w) (s .class) (test (failed c)) (s .cls .now) (s .ent .now) (l .cls) (l .ent) (l .off) (l .k) (l .inv) _
+    (counts (c .before .before .before)) (c .before .entry-good .ensures) (c .if1 .taken)
 
 -- the entry is good: it is whole, and its variable has a place in both lists
 is-good : (c : tie.Else1 Inv-loop μ-loop) → test (passed c) (passed c .loop .cls) (passed c .loop .k) ≡ true
@@ -77,7 +89,8 @@ is-good c = sym (c .before .entry-good .ensures) ∙ not-false _ (c .if1 .left)
 fits : (c : tie.Else1 Inv-loop μ-loop)
     → let s = start (passed c) .args in
     let l = passed c .loop in
-    (l .off + s .w ≤ length (s .table .now)) × (getD (s .table .now) (l .off) 0 < length (l .cls)) × (getD (s .table .now) (l .off) 0 < length (l .ent))
+    (l .off + s .w ≤ length (s .table .now)) × (getD (s .table .now) (l .off) 0 < length (l .cls))
+    × (getD (s .table .now) (l .off) 0 < length (l .ent))
 fits c =
     let s = start (passed c) in
     let l = passed c .loop in
@@ -117,7 +130,8 @@ loop-again : tie.Need-loop-again Inv-loop μ-loop
 loop-again c =
     let s = start (passed (c .before)) .args in
     let l = passed (c .before) .loop in
-    marked-more (s .table .now) (s .w) (s .class) (test (passed (c .before))) (s .cls .now) (s .ent .now) (l .cls) (l .ent) (l .off) (l .k) (l .inv) (counts (c .before .before .before .before)) (is-good (c .before))
+    marked-more (s .table .now) (s .w) (s .class) (test (passed (c .before))) (s .cls .now) (s .ent .now) (l .cls) (l .ent) (l .off) (l .k) (l .inv)
+    (counts (c .before .before .before .before)) (is-good (c .before))
 
 same-length-3 : tie.Need-same-length-3 Inv-loop μ-loop
 same-length-3 c = search needs

@@ -29,11 +29,28 @@ add-result c = search needs
 
 returns-4 : tie.Need-returns-4
 unfolding digitOf
-returns-4 c = (rw (le-ltb _ _ (c .before .before .before .before .if1 .left), lt-leb _ _ (c .before .before .before .if2 .left), le-ltb _ _ (c .before .before .if3 .left), le-leb _ _ (c .before .if4 .taken), c .wide2 .ensures .0), omega arith)
+returns-4 c = (
+  rw (
+    le-ltb _ _ (c .before .before .before .before .if1 .left),
+    lt-leb _ _ (c .before .before .before .if2 .left),
+    le-ltb _ _ (c .before .before .if3 .left),
+    le-leb _ _ (c .before .if4 .taken),
+    c .wide2 .ensures .0,
+  ),
+  omega arith,
+)
 
 returns-5 : tie.Need-returns-5
 unfolding digitOf
-returns-5 c = (rw (le-ltb _ _ (c .before .before .before .if1 .left), lt-leb _ _ (c .before .before .if2 .left), le-ltb _ _ (c .before .if3 .left), lt-leb _ _ (c .if4 .left)), omega arith)
+returns-5 c = (
+  rw (
+    le-ltb _ _ (c .before .before .before .if1 .left),
+    lt-leb _ _ (c .before .before .if2 .left),
+    le-ltb _ _ (c .before .if3 .left),
+    lt-leb _ _ (c .if4 .left),
+  ),
+  omega arith,
+)
 
 pub digit-spec : {M : Type 1} → statement M
 digit-spec =

@@ -27,8 +27,11 @@ digit-requires c κs = search needs
 returns : tie.Need-returns Inv-loop μ-loop
 returns c =
     let l = c .before .before .before .before .loop in
-    let w = c .before .before .before .before .before .before .args .line .now in
-    (sym (l .inv .2 ∙ digits-stop w (l .at) (c .before .before .before .loop-test .taken) (sym (c .before .digit .ensures .0) ∙ c .if1 .taken)), l .inv .0, l .inv .1)
+    let w = c .before .before .before .before .before .before .args .line .now in (
+      sym (l .inv .2 ∙ digits-stop w (l .at) (c .before .before .before .loop-test .taken) (sym (c .before .digit .ensures .0) ∙ c .if1 .taken)),
+      l .inv .0,
+      l .inv .1,
+    )
 
 add-at : tie.Need-add-at Inv-loop μ-loop
 add-at c = search needs
@@ -39,8 +42,12 @@ loop-less c = search needs
 loop-again : tie.Need-loop-again Inv-loop μ-loop
 loop-again c =
     let l = c .before .before .before .before .loop in
-    let w = c .before .before .before .before .before .before .args .line .now in
-    (omega arith, omega arith, l .inv .2 ∙ digits-more w (l .at) (c .before .before .before .loop-test .taken) (λ z. c .if1 .left (c .before .digit .ensures .0 ∙ z)))
+    let w = c .before .before .before .before .before .before .args .line .now in (
+      omega arith,
+      omega arith,
+      l .inv .2 ∙ digits-more w (l .at) (c .before .before .before .loop-test .taken)
+          (λ z. c .if1 .left (c .before .digit .ensures .0 ∙ z)),
+    )
 
 returns-2 : tie.Need-returns-2 Inv-loop μ-loop
 returns-2 c =

@@ -33,8 +33,11 @@ returns c =
     let l = c .before .before .before .before .loop in
     let a = c .before .before .before .before .before .before .before .args in
     let h : l .n < length (a .out .now) = omega arith in
-    let r : 0 ≤ length (l .out) = omega arith in
-    (counts 0 (l .out) r, words-none (a .line .now) (l .at) (l .n) _ (l .out) h _ (c .before .before .next-word .ensures .0) (c .if1 .taken) ∙ sym (l .inv .3))
+    let r : 0 ≤ length (l .out) = omega arith in (
+      counts 0 (l .out) r,
+      words-none (a .line .now) (l .at) (l .n) _ (l .out) h _ (c .before .before .next-word .ensures .0) (c .if1 .taken)
+          ∙ sym (l .inv .3),
+    )
 
 mul-out : tie.Need-mul-out Inv-loop μ-loop
 mul-out c = search needs
@@ -54,8 +57,11 @@ returns-2 c =
     let a = c .before .before .before .before .before .before .before .before .before .args in
     let h : l .n < length (a .out .now) = omega arith in
     let t = c .before .before .before .before .next-word in
-    let r : l .n + 1 ≤ length (set (l .out) (l .n) (t .result .value)) = simp length-set (omega arith) in
-    (counts _ _ r, words-last (a .line .now) (l .at) (l .n) _ (l .out) h (t .result) (t .ensures .0) (c .before .before .if1 .left) (l .inv .2) (c .if2 .taken) ∙ sym (l .inv .3))
+    let r : l .n + 1 ≤ length (set (l .out) (l .n) (t .result .value)) = simp length-set (omega arith) in (
+      counts _ _ r,
+      words-last (a .line .now) (l .at) (l .n) _ (l .out) h (t .result) (t .ensures .0) (c .before .before .if1 .left) (l .inv .2)
+          (c .if2 .taken) ∙ sym (l .inv .3),
+    )
 
 loop-less : tie.Need-loop-less Inv-loop μ-loop
 loop-less c = search needs
@@ -66,7 +72,8 @@ loop-again c =
     let a = c .before .before .before .before .before .before .before .before .before .args in
     let h : l .n < length (a .out .now) = omega arith in
     let t = c .before .before .before .before .next-word in
-    let more = words-more (a .line .now) (l .at) (l .n) _ (l .out) h (t .result) (t .ensures .0) (c .before .before .if1 .left) (l .inv .2) (c .if2 .left) in
+    let more =
+    words-more (a .line .now) (l .at) (l .n) _ (l .out) h (t .result) (t .ensures .0) (c .before .before .if1 .left) (l .inv .2) (c .if2 .left) in
     (c .if2 .left, omega arith, simp length-set (l .inv .2), l .inv .3 ∙ more)
 
 same-length-3 : tie.Need-same-length-3 Inv-loop μ-loop

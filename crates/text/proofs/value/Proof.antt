@@ -10,7 +10,8 @@ use Rattle.text.proofs.value.Statement.{statement}
 use Rattle.text.proofs.value.Tie as tie
 
 abbrev Inv-loop : tie.InvT-loop
-Inv-loop line from end v₀ at₀ v at = (at ≤ end) × (end ≤ length line) × (number 0 (take (end - from) (drop from line)) ≡ number v (take (end - at) (drop at line)))
+Inv-loop line from end v₀ at₀ v at =
+    (at ≤ end) × (end ≤ length line) × (number 0 (take (end - from) (drop from line)) ≡ number v (take (end - at) (drop at line)))
 
 abbrev μ-loop : tie.MeasureT-loop
 μ-loop line from end v₀ at₀ v at = end - at
@@ -36,8 +37,12 @@ loop-less c = search needs
 loop-again : tie.Need-loop-again Inv-loop μ-loop
 loop-again c =
     let l = c .before .before .before .before .loop in
-    let a = c .before .before .before .before .before .before .args in
-    (omega arith, omega arith, l .inv .2 ∙ number-more (l .v) _ _ (a .line .now) (l .at) (a .end) (c .before .before .before .loop-test .taken) (l .inv .1) (c .before .digit .ensures .0) (c .wrapping-add-u64 .ensures))
+    let a = c .before .before .before .before .before .before .args in (
+      omega arith,
+      omega arith,
+      l .inv .2 ∙ number-more (l .v) _ _ (a .line .now) (l .at) (a .end) (c .before .before .before .loop-test .taken)
+          (l .inv .1) (c .before .digit .ensures .0) (c .wrapping-add-u64 .ensures),
+    )
 
 returns : tie.Need-returns Inv-loop μ-loop
 returns c =

@@ -184,14 +184,16 @@ abbrev answered : tie.Else5 → tie.After-given-answer
 answered c = c .before .before
 
 words : (c : tie.Else5)
-    → isAccepted (givenAnswer (target (widthed (passed (answered c)))) (all-widths (widthed (passed (answered c)))) (given (widthed (passed (answered c))))) ≡ true
+    → isAccepted (givenAnswer (target (widthed (passed (answered c)))) (all-widths (widthed (passed (answered c))))
+    (given (widthed (passed (answered c))))) ≡ true
 words c = rw (given-is (answered c)) at (sym (c .before .is-accepted2 .ensures) ∙ not-false _ (c .if5 .left))
 
 slice-reshare-prefix-evaluate : tie.Need-slice-reshare-prefix-evaluate
 slice-reshare-prefix-evaluate c = search needs
 
 slice-aggregate-evaluate : tie.Need-slice-aggregate-evaluate
-slice-aggregate-evaluate c = sym (length-take-le _ _ (omega (arith, c .before .before .before .before .before .before .before .before .before .target-widths .kept .1 .1 .0)))
+slice-aggregate-evaluate c =
+    sym (length-take-le _ _ (omega (arith, c .before .before .before .before .before .before .before .before .before .target-widths .kept .1 .1 .0)))
 
 evaluate-requires : tie.Need-evaluate-requires
 evaluate-requires c κs =

@@ -35,8 +35,10 @@ returns-2 c =
     let s = c .before .before .before .before .before .before .before .before .before .before .before .args in
     let e = c .before .before .before .before .before .row-count .ensures in
     let told = c .before .before .rows-wf .ensures in
-    let (reached, stops) = told .1 plain (s .ws .now) (λ i h k t. (refl, refl)) (at-start plain (s .graph) (s .nbits) (s .side .now) (s .g .now) (s .ws .now)) in
-    rw (c .before .before .before .before .before .before .if1 .left) (at-stop _ _ _ _ _ _ _ _ reached (omega (arith, e, told .0 .1)) (λ h. stops (omega (arith, e, h))))
+    let (reached, stops) =
+    told .1 plain (s .ws .now) (λ i h k t. (refl, refl)) (at-start plain (s .graph) (s .nbits) (s .side .now) (s .g .now) (s .ws .now)) in
+    rw (c .before .before .before .before .before .before .if1 .left)
+    (at-stop _ _ _ _ _ _ _ _ reached (omega (arith, e, told .0 .1)) (λ h. stops (omega (arith, e, h))))
 
 pub graph-wf-spec : {M : Type 1} → statement M
 graph-wf-spec =

@@ -31,7 +31,10 @@ has-width-requires : tie.Need-has-width-requires Inv-loop μ-loop
 has-width-requires c κs = search needs
 
 returns : tie.Need-returns Inv-loop μ-loop
-returns c = let s = c .before .before .before .before .before .before .before .args in sym (first-at (rootBad (s .ws .now) (s .roots .now)) _ _ (c .before .before .before .loop-test .taken) (rw (c .before .has-width .ensures) at (c .if1 .taken)) (c .before .before .before .before .loop .inv .1))
+returns c =
+    let s = c .before .before .before .before .before .before .before .args in
+    sym (first-at (rootBad (s .ws .now) (s .roots .now)) _ _ (c .before .before .before .loop-test .taken)
+    (rw (c .before .has-width .ensures) at (c .if1 .taken)) (c .before .before .before .before .loop .inv .1))
 
 add-r : tie.Need-add-r Inv-loop μ-loop
 add-r c = omega arith
@@ -43,7 +46,9 @@ loop-again : tie.Need-loop-again Inv-loop μ-loop
 loop-again c = (omega arith, below-more _ _ (c .before .before .before .before .loop .inv .1) (rw (c .before .has-width .ensures) at (c .if1 .left)))
 
 returns-2 : tie.Need-returns-2 Inv-loop μ-loop
-returns-2 c = let s = c .before .before .before .before .args in sym (first-past (rootBad (s .ws .now) (s .roots .now)) _ _ (c .before .loop .inv .0) (c .loop-test .left) (c .before .loop .inv .1))
+returns-2 c =
+    let s = c .before .before .before .before .args in
+    sym (first-past (rootBad (s .ws .now) (s .roots .now)) _ _ (c .before .loop .inv .0) (c .loop-test .left) (c .before .loop .inv .1))
 
 pub roots-wf-spec : {M : Type 1} → statement M
 roots-wf-spec =

@@ -80,7 +80,8 @@ returns-2 c =
     let w = at-graph-wf .graph-wf in
     rw (c .graph-number .ensures, at-bad-bit .bad-bit .ensures, at-clear2 .clear2 .ensures, w .kept .1 .1 .1 .1 .1 .1 .0)
     (sym (widths-17 (sorts at-graph-wf) (s .graph) (s .g .now) (s .bits .now) (s .side .now) (s .ws .now)
-    (rw (w .ensures .0, at-graph-wf .before .before .row-count .ensures) at (else1 .if1 .left)) (rw (at-bad-bit .bad-bit .ensures) at (then2 .if2 .taken))))
+    (rw (w .ensures .0, at-graph-wf .before .before .row-count .ensures) at (else1 .if1 .left))
+    (rw (at-bad-bit .bad-bit .ensures) at (then2 .if2 .taken))))
 
 clear-from-requires : tie.Need-clear-from-requires
 clear-from-requires c κs = search needs
@@ -101,7 +102,8 @@ returns-3 c =
     let most = first-le (rowStops σ (s .graph) (length (s .bits .now)) (s .side .now) (s .g .now)) (rowCount (s .graph) (s .g .now)) in
     let all : w .result ≡ at-graph-wf .before .before .row-count .result = omega (arith, w .ensures .0, most, count) in
     ap (λ (l : List ℕ). result Accepted (l ∷ [])) (c .before .before .clear-from .ensures
-    ∙ accepted-list σ (s .graph) (length (s .bits .now)) (s .g .now) (s .side .now) (s .ws .now) _ _ _ count all (w .kept .1 .1 .1 .1 .1 .1 .0) (w .ensures .1))
+    ∙ accepted-list σ (s .graph) (length (s .bits .now)) (s .g .now) (s .side .now) (s .ws .now) _ _ _ count all (w .kept .1 .1 .1 .1 .1 .1 .0)
+    (w .ensures .1))
     ∙ sym (widths-accepted σ (s .graph) (s .g .now) (s .bits .now) (s .side .now) (s .ws .now) (rw (w .ensures .0, count) at (else1 .if1 .left))
     (rw (at-bad-bit .bad-bit .ensures) at (else2 .if2 .left)))
 
