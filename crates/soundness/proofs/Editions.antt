@@ -2,11 +2,11 @@
 -- the answer and the lists, by either check (02, 2.9). Assumes nothing.
 use Prim.Native.Nat.{ℕ, zero, suc, _<_, _≤_}
 use mathlib.Core.Path.{_≡_, refl, ap, _∙_}
-use mathlib.Core.Bool.{Bool, cond}
+use mathlib.Core.Bool.{Bool}
 use mathlib.Core.List.{List}
 use native.Mathlib.Omega.{arith}
 use lib.Dec.{eqb}
-use lib.ListN.{length}
+use lib.ListN.{length, getD}
 use Rattle.lists.specs.Build.{build}
 use Rattle.lists.proofs.First.{first-same}
 use Rattle.sorts.specs.Sorts.{Sorts, secondEdition, plain, sortsOf}
@@ -14,11 +14,11 @@ use Rattle.sorts.specs.Good.{Good}
 use Rattle.sorts.proofs.Sorts.{sort-accepted}
 use Rattle.rows.specs.declared.Graph.the-variants.{Source}
 use Rattle.rows.specs.declared.Node.{Node}
-use Rattle.rows.specs.declared.Node.the-variants.{Var, Const, Un, Bin, Extract, Extend, Ite, Select, Call, Unknown}
+use Rattle.rows.specs.declared.Node.the-variants.{Select}
 use Rattle.rows.specs.Row.{rowCount, rowAt}
-use Rattle.rows.specs.Node.{nodeOf, operands}
-use Rattle.rules.specs.Rule.{capped, rule, earlier}
+use Rattle.rows.specs.Node.{nodeFrom, nodeOf}
 use Rattle.wf.specs.Widths.{rowWidth, widthsTo, illRow, widths}
+use Rattle.wf.proofs.Agree.{width-same}
 use Rattle.lowering.specs.Tables.{readCount, readArray, readGood, badRead}
 use Rattle.lowering.specs.Lowering.{Lowering, lowering, loweringIn}
 use Rattle.lowering.specs.Check.{checkBy, noClasses, widthsOfTarget}
@@ -38,24 +38,13 @@ module _ (σ : Sorts) where
   PlainNode : Node → Type 0
   PlainNode node = (a j s k : ℕ) → node ≡ Select a j s k → Plain σ a
 
-  rule-same : (nbits : ℕ) (side ws : List ℕ) (node : Node) → PlainNode node → rule σ nbits side ws node ≡ rule plain nbits side ws node
-  unfolding PlainNode
-  rule-same nbits side ws (Var w) p = refl
-  rule-same nbits side ws (Const s w) p = refl
-  rule-same nbits side ws (Un t a) p = refl
-  rule-same nbits side ws (Bin t a b) p = refl
-  rule-same nbits side ws (Extract high low a) p = refl
-  rule-same nbits side ws (Extend t a n) p = refl
-  rule-same nbits side ws (Ite c t e) p = refl
-  rule-same nbits side ws (Select a j s k) p = let (i, c) = p a j s k refl in rw (i, c)
-  rule-same nbits side ws (Call f w s k) p = refl
-  rule-same nbits side ws Unknown p = refl
-
   module _ (nbits : ℕ) (side g : List ℕ) (named : (i : ℕ) → i < rowCount Source g → PlainNode (nodeOf (rowAt Source g i))) where
     row-same : (i : ℕ) → i < rowCount Source g → (ws : List ℕ) → rowWidth σ Source nbits side g i ws ≡ rowWidth plain Source nbits side g i ws
+    unfolding PlainNode
     row-same i h ws =
-        let node = nodeOf (rowAt Source g i) in
-        ap (λ (w : ℕ). cond (earlier (operands node) (length ws)) (capped w) 0) (rule-same nbits side ws node (named i h))
+        let r = rowAt Source g i in
+        width-same σ plain nbits side ws r
+        (λ e. named i h _ _ _ _ (ap (λ (t : ℕ). nodeFrom t (getD r 1 0) (getD r 2 0) (getD r 3 0) (getD r 4 0)) e))
 
     to-same : (n : ℕ) → n ≤ rowCount Source g → widthsTo σ Source nbits side g n ≡ widthsTo plain Source nbits side g n
     to-same n h = build-same (rowWidth σ Source nbits side g) (rowWidth plain Source nbits side g) n (λ i l. row-same i (omega arith))

@@ -1,3 +1,4 @@
 pub mod Stop
 pub mod Promise
+pub mod Agree
 pub mod Parts

@@ -4,52 +4,30 @@ use mathlib.Core.Path.{_≡_, refl, sym, ap, _∙_}
 use mathlib.Core.Bool.{Bool, true, false, cond}
 use mathlib.Core.List.{List, _++_}
 use native.Mathlib.Nat.{not-suc-le-zero}
-use borrow.Author.Tests.{eqb-true, ltb-true, ltb-false}
-use lib.Dec.{eqb, ltb}
+use borrow.Author.Tests.{ltb-true, ltb-false}
+use lib.Dec.{ltb}
 use lib.ListN.{getD, drop}
 use Rattle.lists.proofs.First.{first-at, first-past}
 use Rattle.lists.proofs.Build.{build-start}
 use Rattle.sorts.specs.Sorts.{Sorts}
 use Rattle.sorts.specs.Every.{every}
 use Rattle.rows.specs.declared.Graph.{Graph}
-use Rattle.rows.specs.declared.Node.{Node}
 use Rattle.rows.specs.Row.{rowCount, rowAt}
-use Rattle.rows.specs.Tags.{tVar, tConst, tExtract, tIte, tSelect, tCall, isUn, isExtend}
-use Rattle.rows.specs.Node.{nodeFrom}
+use Rattle.rows.specs.Tags.{tSelect}
 use Rattle.encoding.specs.Encoding.{rowGood}
-use Rattle.rules.specs.Rule.{nodeWidth}
+use Rattle.wf.proofs.Agree.{width-same}
 use Rattle.wf.specs.Widths.{rowWidth, widthsTo}
 use Rattle.wf.specs.Pass.{goodWidth, rowStops, stopRow, OneSort, Reached}
-
--- a node's width asks for the sort of a Select's array and for no other
-module _ (σ : Sorts) (iw cw nbits : ℕ) (side ws : List ℕ) where
-  Same : Node → Type 0
-  Same node = nodeWidth (every iw cw) nbits side ws node ≡ nodeWidth σ nbits side ws node
-
-  either : (p : Bool) (x y : Node) → (p ≡ true → Same x) → Same y → Same (cond p x y)
-  either true x y h k = h refl
-  either false x y h k = k
-
-  by-tag : (t a b c d : ℕ) → (t ≡ tSelect → (σ .index a ≡ iw) × (σ .cell a ≡ cw)) → Same (nodeFrom t a b c d)
-  unfolding Same
-  by-tag t a b c d h =
-      either (eqb t tVar) _ _ (λ e. refl)
-      (either (eqb t tConst) _ _ (λ e. refl)
-      (either (eqb t tExtract) _ _ (λ e. refl)
-      (either (isExtend t) _ _ (λ e. refl)
-      (either (eqb t tIte) _ _ (λ e. refl)
-      (either (isUn t) _ _ (λ e. refl)
-      (either (eqb t tSelect) _ _ (λ e. let (i, k) = h (eqb-true t tSelect e) in rw (i, k))
-      (either (eqb t tCall) _ _ (λ e. refl)
-      (either (ltb t tSelect) _ _ (λ e. refl) refl))))))))
 
 -- a row of such a part
 pub part-width : (σ : Sorts) (graph : Graph) (nbits : ℕ) (side g : List ℕ) (from to iw cw i : ℕ) (ws : List ℕ)
     → OneSort σ graph g from to iw cw → from ≤ i → i < to
     → goodWidth (every iw cw) graph nbits side g i ws ≡ goodWidth σ graph nbits side g i ws
-unfolding Same
 part-width σ graph nbits side g from to iw cw i ws one h k =
-    ap (λ (w : ℕ). cond (rowGood graph (rowAt graph g i)) w 0) (by-tag σ iw cw nbits side ws _ _ _ _ _ (one i k h))
+    ap (λ (w : ℕ). cond (rowGood graph (rowAt graph g i)) w 0) (width-same (every iw cw) σ nbits side ws (rowAt graph g i) agree)
+  where
+    agree : getD (rowAt graph g i) 0 0 ≡ tSelect → (iw ≡ σ .index (getD (rowAt graph g i) 1 0)) × (cw ≡ σ .cell (getD (rowAt graph g i) 1 0))
+    agree e = let (index, cell) = one i k h e in (sym index, sym cell)
 
 -- rows that read one array
 pub one-array : (σ : Sorts) (graph : Graph) (g : List ℕ) (from to array iw cw : ℕ)

@@ -64,7 +64,7 @@ fn rows_wf(
     i
 }
 
-// A row reads another array.
+// Whether a row reads another array; what is asked is that no other is read where it says no.
 fn reads_other(r: [u64; 5], array: u64) -> bool
     ensures test { λ b. ⌜ (b ≡ false → getD r 0 0 ≡ tSelect → getD r 1 0 ≡ array) ⌝ }
 {
@@ -75,7 +75,8 @@ fn reads_other(r: [u64; 5], array: u64) -> bool
 }
 
 // The end of a part of the pass: the next row that reads another array than its first row does, or the number of rows. The first row of a part may
-// be no read; its first field is then a number like any other.
+// be no read; its first field is then a number like any other. What is asked of the end is that no other array is read before it; a part that ended
+// earlier would only take longer.
 fn part_end(graph: Graph, g: &[u64], from: usize, array: u64) -> usize
     requires { ⌜ (from < rowCount graph (now g)) × (array ≡ getD (rowAt graph (now g) from) 1 0) ⌝ }
     ensures place { λ r. ⌜ (from < r) × (r ≤ rowCount graph (now (g .entry))) ⌝ }
@@ -106,7 +107,8 @@ fn parts_wf(
     requires { ⌜ Good (edition true (now sorts)) ⌝ }
     requires { ⌜ rowCount graph (now g) ≤ length (now ws) ⌝ }
     ensures row { λ r. ⌜ r ≡ stopRow (sortsOf (edition true (now (sorts .entry)))) graph nbits (now (side .entry)) (now (g .entry)) ⌝ }
-    ensures list { λ r. ⌜ now (ws .exit) ≡ widthsTo (sortsOf (edition true (now (sorts .entry)))) graph nbits (now (side .entry)) (now (g .entry)) r
+    ensures list { λ r. ⌜ now (ws .exit)
+        ≡ widthsTo (sortsOf (edition true (now (sorts .entry)))) graph nbits (now (side .entry)) (now (g .entry)) r
         ++ drop r (now (ws .entry)) ⌝ }
 {
     let n = rows::row_count(graph, g);
@@ -139,7 +141,8 @@ pub fn graph_wf(
     requires { ⌜ Good (edition second (now sorts)) ⌝ }
     requires { ⌜ rowCount graph (now g) ≤ length (now ws) ⌝ }
     ensures row { λ r. ⌜ r ≡ stopRow (sortsOf (edition second (now (sorts .entry)))) graph nbits (now (side .entry)) (now (g .entry)) ⌝ }
-    ensures list { λ r. ⌜ now (ws .exit) ≡ widthsTo (sortsOf (edition second (now (sorts .entry)))) graph nbits (now (side .entry)) (now (g .entry)) r
+    ensures list { λ r. ⌜ now (ws .exit)
+        ≡ widthsTo (sortsOf (edition second (now (sorts .entry)))) graph nbits (now (side .entry)) (now (g .entry)) r
         ++ drop r (now (ws .entry)) ⌝ }
 {
     if second {
