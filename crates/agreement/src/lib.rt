@@ -1,4 +1,6 @@
 // Whether the library answers a case as expected: each operation takes its lists from the case, calls the library, and compares the outcome.
+#![tactic(auto)]
+
 ghost use Rattle.std.specs.Prelude.{◌≡◌, true, ◌≤◌, length, get_or};
 ghost use Rattle.cases.specs.Case.{room, given};
 ghost use Rattle.agreement.specs.Agrees.{BookAgrees, SameSection, SectionAgrees, Agrees};

@@ -1,9 +1,11 @@
 // The answers of the operations, and their numbers.
+#![tactic(auto)]
+
 ghost use Rattle.std.specs.Prelude.{◌≡◌};
 ghost use Rattle.answers.specs.Answer.{words_of, is_accepted};
 
 // What an operation answers: acceptance or the refusal, with the values that it names.
-#[derive(Drop)]
+#[derive(Clone, Copy)]
 pub enum Answer {
     Accepted,
     // row of the source
@@ -66,7 +68,7 @@ pub enum Answer {
 
 // An answer as three words.
 #[repr(C)]
-#[derive(Drop)]
+#[derive(Clone, Copy)]
 pub struct Words {
     pub number: u64,
     pub place: u64,

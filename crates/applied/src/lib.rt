@@ -1,4 +1,6 @@
 // A Call row against its image: the entry of the result variable and its arguments.
+#![tactic(auto)]
+
 ghost use Rattle.std.specs.Prelude.{◌≡◌, cond, ◌+◌, ◌<◌, ◌≤◌, length, get_or, set};
 ghost use Rattle.lists.specs.Tests.{agree};
 ghost use Rattle.lowering.specs.Matching.{noted, mapped_arg, call_matches};

@@ -1,4 +1,6 @@
 // Sums, products and parts of bit vectors of width 1 to 64, as words.
+#![tactic(auto)]
+
 ghost use Rattle.std.specs.Prelude.{◌≡◌, ◌+◌, ◌*◌, ◌%◌, ◌^◌, ◌<◌, ◌≤◌, nat_lt};
 ghost use Rattle.bv.specs.Bv.{bvneg, bvadd, bvsub, bvmul, concat, extract, zero-extend, sign-extend};
 

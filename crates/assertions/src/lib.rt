@@ -1,4 +1,6 @@
 // Roots as the strict check takes them: each an asserted term, a row of one bit.
+#![tactic(auto)]
+
 ghost use Rattle.std.specs.Prelude.{◌≡◌};
 ghost use Rattle.lowering.specs.Check.{first_refusal, bit_answers};
 

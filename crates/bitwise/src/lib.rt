@@ -1,4 +1,6 @@
 // The bitwise, shift and rotate operators on bit vectors of width 1 to 64.
+#![tactic(auto)]
+
 ghost use Rattle.std.specs.Prelude.{◌≡◌, ◌<◌, ◌≤◌, ◌^◌};
 ghost use Rattle.bv.specs.Bv.{bvnot, bvand, bvor, bvxor, bvshl, bvlshr, bvashr, bvrotr, bvrotl};
 

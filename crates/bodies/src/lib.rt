@@ -1,4 +1,6 @@
 // The words that a book holds, in one list.
+#![tactic(auto)]
+
 ghost use Rattle.std.specs.Prelude.{◌≡◌, ◌++◌, cond, ◌+◌, ◌-◌, ◌/◌, ◌≤◌, ◌<◌, length, take, drop, replicate};
 ghost use Rattle.contents.specs.Contents.{sections};
 ghost use Rattle.book.specs.Good.{Good};

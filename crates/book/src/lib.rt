@@ -1,4 +1,6 @@
 // Books and their sections. Entry i of the contents is section i + 1's.
+#![tactic(auto)]
+
 ghost use Rattle.std.specs.Prelude.{◌≡◌, ◌≤◌, ◌<◌, length};
 ghost use Rattle.contents.specs.Contents.{is_second, sections, contents};
 ghost use Rattle.book.specs.Book.{end_of, due_at, bad_section, first_bad, book_answer, section_answer, body, section_place, section};
@@ -8,7 +10,7 @@ use answers::Answer;
 
 // A part of a book: its first byte's place and its length in bytes.
 #[repr(C)]
-#[derive(Drop)]
+#[derive(Clone, Copy)]
 pub struct Stretch {
     pub start: u64,
     pub length: u64,

@@ -1,4 +1,6 @@
 // Words as bit vectors of width 1 to 64.
+#![tactic(auto)]
+
 ghost use Rattle.std.specs.Prelude.{◌≡◌, ◌<◌, ◌≤◌, ◌-◌, ◌%◌, ◌^◌};
 ghost use Rattle.bv.specs.Bv.{negative};
 

@@ -1,5 +1,7 @@
 // A case as words: operation, number of lists, the lists, number place detail, number of lent lists,
 // and the lent lists after the call. A list is its count and its words.
+#![tactic(auto)]
+
 ghost use Rattle.std.specs.Prelude.{◌≡◌, true, ◌+◌, ◌≤◌, max, length, get_or};
 ghost use Rattle.cases.specs.Case.{after, after_lists, list_at, given, answer_at, answer, expected, has_shape};
 

@@ -1,4 +1,6 @@
 // The operation Check, and the strict check, on either edition: one function with two switches.
+#![tactic(auto)]
+
 ghost use Rattle.std.specs.Prelude.{◌≡◌, [], ◌∷◌};
 ghost use Rattle.answers.specs.Result.{result_of};
 ghost use Rattle.sorts.specs.Sorts.{edition};

@@ -1,4 +1,6 @@
 // The programs verdict and strict_verdict: a book from the file that the argument names, or from standard input, and its line on standard output.
+#![tactic(auto)]
+
 use libc::{STDERR_FILENO, STDIN_FILENO, STDOUT_FILENO};
 
 // One byte more than the longest book is read, so that a longer one is seen.

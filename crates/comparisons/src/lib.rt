@@ -1,4 +1,6 @@
 // Comparisons of bit vectors of width 1 to 64, as words, each 1 or 0; the choice by one.
+#![tactic(auto)]
+
 ghost use Rattle.std.specs.Prelude.{◌≡◌, ◌<◌, ◌≤◌, ◌^◌};
 ghost use Rattle.bv.specs.Bits.{of_bool};
 ghost use Rattle.bv.specs.Bv.{by_signs, bvult, bvule, bvugt, bvuge, bvslt, bvsle, bvsgt, bvsge, equal, distinct, ite};

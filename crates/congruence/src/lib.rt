@@ -1,4 +1,6 @@
 // Congruence of calls: a root for each pair of call entries that needs one.
+#![tactic(auto)]
+
 ghost use Rattle.std.specs.Prelude.{◌≡◌, [], ◌∷◌, ◌+◌, ◌-◌, ◌<◌, ◌≤◌, ltb, length, get_or};
 ghost use Rattle.lists.specs.Tests.{all};
 ghost use Rattle.lowering.specs.Tables.{call_count, same_function};

@@ -1,4 +1,6 @@
 // A book's words and the entries of its table of contents. Entry i is section i + 1's.
+#![tactic(auto)]
+
 ghost use Rattle.std.specs.Prelude.{◌≡◌, ◌+◌, ◌<◌, ◌≤◌, length, nat_lt};
 ghost use Rattle.contents.specs.Contents.{word_at, start_of, length_of, sections, contents, is_bits};
 

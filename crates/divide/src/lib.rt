@@ -1,4 +1,6 @@
 // Division and remainder of bit vectors, unsigned and signed.
+#![tactic(auto)]
+
 ghost use Rattle.std.specs.Prelude.{◌≡◌, ◌<◌, ◌≤◌, ◌^◌};
 ghost use Rattle.bv.specs.Bv.{bvudiv, bvurem, bvsdiv, bvsrem};
 ghost use Rattle.divide.specs.TwosComplement.{to_int, of_int, overflow};

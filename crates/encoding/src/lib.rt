@@ -1,4 +1,6 @@
 // The rules of a good encoding: known tags, unused fields that are 0, bits that are 0 or 1.
+#![tactic(auto)]
+
 ghost use Rattle.std.specs.Prelude.{◌≡◌, false, ℕ, ◌<◌, ◌≤◌, length, get_or};
 ghost use Rattle.rows.specs.Row.{row_count};
 ghost use Rattle.encoding.specs.Encoding.{tag_count, field_count, field_good, fields_good, row_good, row_bad, bad_row, bad_bit};

@@ -1,4 +1,6 @@
 // Where the walk of a Select ends: at the value that a pair stores, or at a read variable.
+#![tactic(auto)]
+
 ghost use Rattle.std.specs.Prelude.{◌≡◌, cond, length, set};
 ghost use Rattle.lowering.specs.declared.Walk.{Walk};
 ghost use Rattle.lowering.specs.Matching.{noted, end_good, end_classes};

@@ -1,4 +1,6 @@
 // The tests of one table entry: its variable, its index or arguments, its key.
+#![tactic(auto)]
+
 ghost use Rattle.std.specs.Prelude.{◌≡◌, ◌<◌, ◌≤◌, ◌+◌, ◌*◌, length};
 ghost use Rattle.lists.specs.Tests.{all};
 ghost use Rattle.rows.specs.declared.Graph.{Graph};
@@ -10,7 +12,7 @@ use rows::{Graph, tag};
 use sorts::Sort;
 
 // Which table a list of words holds.
-#[derive(Drop)]
+#[derive(Clone, Copy)]
 pub enum Table {
     Reads,
     Calls,

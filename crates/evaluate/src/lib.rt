@@ -1,4 +1,6 @@
 // The numbers of a target's rows, in words, rows in order.
+#![tactic(auto)]
+
 ghost use Rattle.std.specs.Prelude.{◌≡◌, true, [], ◌∷◌, ◌++◌, ◌<◌, ◌≤◌, ◌+◌, ◌^◌, length, get_or, drop};
 ghost use Rattle.bv.specs.Bv.{extract, ite};
 ghost use Rattle.operate.specs.Ready.{BinReady};

@@ -1,4 +1,6 @@
 // Whether both graphs are lists of well-formed rows: counts of words, encoding, form; for the strict check also whether their roots are of one bit.
+#![tactic(auto)]
+
 ghost use Rattle.std.specs.Prelude.{◌≡◌, true, false, [], ◌++◌, ℕ, ◌<◌, ◌≤◌, length, drop};
 ghost use Rattle.answers.specs.Answer.{is_accepted};
 ghost use Rattle.rows.specs.declared.Graph.{Graph};

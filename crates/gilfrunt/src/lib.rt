@@ -1,4 +1,6 @@
 // The operations over numbers and slices, for C and Rust (include/gilfrunt.h).
+#![tactic(auto)]
+
 ghost use Rattle.std.specs.Prelude.{◌≡◌, [], ◌∷◌};
 ghost use Rattle.answers.specs.Answer.{words_of};
 ghost use Rattle.answers.specs.Result.{told, told_of};

@@ -1,4 +1,6 @@
 // Rows and their images: the map, mapped rows, and tests on one or two rows.
+#![tactic(auto)]
+
 ghost use Rattle.std.specs.Prelude.{◌≡◌, true, ◌≤◌, ◌+◌, length, get_or};
 ghost use Rattle.lists.specs.Tests.{agree};
 ghost use Rattle.rows.specs.declared.Node.{Node};
@@ -67,7 +69,7 @@ pub fn row_is_eq(r: [u64; 5], a: u64, b: u64) -> bool
 }
 
 // What a row says as a constant: whether it is one, and if so where its bits start and how many there are.
-#[derive(Drop)]
+#[derive(Clone, Copy)]
 pub struct Constant {
     pub is: bool,
     pub start: u64,

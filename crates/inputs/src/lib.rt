@@ -1,4 +1,6 @@
 // The words given for a target's variables: 21, 22 and 23.
+#![tactic(auto)]
+
 ghost use Rattle.std.specs.Prelude.{◌≡◌, cond, not, false, ◌^◌, eqb, ltb, length, get_or};
 ghost use Rattle.rows.specs.declared.Graph.{Graph};
 ghost use Rattle.rows.specs.Row.{row_count};

@@ -1,4 +1,6 @@
 // The verdict on a book: Check, or the strict check, on the lists that it holds.
+#![tactic(auto)]
+
 ghost use Rattle.std.specs.Prelude.{◌≡◌, true, [], ◌∷◌};
 ghost use Rattle.answers.specs.Answer.{is_accepted};
 ghost use Rattle.answers.specs.Result.{result_of};

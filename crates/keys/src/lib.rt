@@ -1,4 +1,6 @@
 // Keys of table entries: what tells two functions apart, and whether an entry before has the same key.
+#![tactic(auto)]
+
 ghost use Rattle.std.specs.Prelude.{◌≡◌, not, [], ◌∷◌, ◌≤◌, ◌+◌, ◌*◌, length, get_or};
 ghost use Rattle.lists.specs.First.{none};
 ghost use Rattle.lists.specs.Tests.{all};

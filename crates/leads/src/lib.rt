@@ -1,4 +1,6 @@
 // Roots one by one: the images of the source's roots, and the shape of a congruence root.
+#![tactic(auto)]
+
 ghost use Rattle.std.specs.Prelude.{◌≡◌, ◌<◌, length};
 ghost use Rattle.lowering.specs.Roots.{bad_lead, leads};
 ghost use Rattle.leads.specs.Shape.{antecedent};

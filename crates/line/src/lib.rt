@@ -1,4 +1,6 @@
 // The line that verdict prints for an answer.
+#![tactic(auto)]
+
 ghost use Rattle.std.specs.Prelude.{◌+◌, ◌<◌, ◌≤◌, ◌≡◌, [], ◌∷◌, ◌++◌, length, take, drop};
 ghost use Rattle.line.specs.Line.{decimal, line_of};
 

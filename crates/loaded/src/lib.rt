@@ -1,4 +1,6 @@
 // Check, or the strict check, on the lists that a book of good shape holds, once its words stand in a list.
+#![tactic(auto)]
+
 ghost use Rattle.std.specs.Prelude.{◌≡◌, [], ◌∷◌, ◌++◌, ltb, length, drop};
 ghost use Rattle.sorts.specs.Sorts.{edition};
 ghost use Rattle.contents.specs.Contents.{is_second, sections};

@@ -1,4 +1,6 @@
 // Whether a target is the lowering of a source, where both are well formed: the tables, the rows and the roots in 01's order.
+#![tactic(auto)]
+
 ghost use Rattle.std.specs.Prelude.{◌≡◌, true, [], ◌++◌, ◌-◌, ◌≤◌, length, replicate};
 ghost use Rattle.answers.specs.Answer.{is_accepted};
 ghost use Rattle.rows.specs.declared.Graph.{Graph};

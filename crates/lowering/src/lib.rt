@@ -1,5 +1,7 @@
+#![tactic(auto)]
+
 // Where the walk along a Select's pairs ends.
-#[derive(Drop)]
+#[derive(Clone, Copy)]
 pub enum Walk {
     // all pairs are taken: the current row
     RanOut(u64),

@@ -1,4 +1,6 @@
 // How a source row is matched with its image, and the classes that follow.
+#![tactic(auto)]
+
 ghost use Rattle.std.specs.Prelude.{◌≡◌, cond, ◌<◌, length, set};
 ghost use Rattle.answers.specs.Answer.{is_accepted};
 ghost use Rattle.images.specs.Bits.{BitsWithin, ConstsWithin};

@@ -1,5 +1,7 @@
 // A row by its line of the table: each operand is an earlier row, their widths join by the line's rule, and its side list is good.
 // The fields that it does not use are 0, which is looked at here because its operands tell which they are.
+#![tactic(auto)]
+
 ghost use Rattle.std.specs.Prelude.{◌≡◌, get_or};
 ghost use Rattle.sorts.specs.Every.{every};
 ghost use Rattle.rules.specs.Table.{row_any, row_in_bits, row_arguments, row0, row_one, row_extended, row1, row_part, row2, row3, row_chain};

@@ -1,4 +1,6 @@
 // The number of an operator on numbers of width 1 to 64: from a tag to its function, in stretches of tags.
+#![tactic(auto)]
+
 ghost use Rattle.std.specs.Prelude.{◌≡◌, true, [], ◌∷◌, ℕ, ◌<◌, ◌≤◌, ◌+◌, ◌^◌, length, get_or};
 ghost use Rattle.rows.specs.Tags.{is_un, is_extend, t_concat};
 ghost use Rattle.rows.specs.Decoded.{BinTag};

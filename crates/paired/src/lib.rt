@@ -1,5 +1,7 @@
 // Check and the strict check of either edition, the operations on two graphs: takes the lists from a case, calls the library, and compares the
 // outcome.
+#![tactic(auto)]
+
 ghost use Rattle.std.specs.Prelude.{◌≡◌, true, [], ◌∷◌, ◌+◌, ◌≤◌, ◌<◌, length};
 ghost use Rattle.answers.specs.Result.{told, told_of};
 ghost use Rattle.cases.specs.Case.{room, given};

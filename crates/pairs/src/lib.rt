@@ -1,4 +1,6 @@
 // Congruence of reads: a root for each pair of read entries that needs one.
+#![tactic(auto)]
+
 ghost use Rattle.std.specs.Prelude.{◌≡◌, not, [], ◌∷◌, ◌+◌, ◌*◌, ◌-◌, ◌<◌, ◌≤◌, eqb, ltb, length, get_or};
 ghost use Rattle.lists.specs.Tests.{all};
 ghost use Rattle.rows.specs.Row.{row_count, row_at};
@@ -11,7 +13,7 @@ ghost use Rattle.pairs.specs.Walk.{walked, ReadsIn};
 use rows::Graph;
 
 // The result of a walk along congruence roots: all stand, and the position after those that do.
-#[derive(Drop)]
+#[derive(Clone, Copy)]
 pub struct Cong {
     pub ok: bool,
     pub next: usize,

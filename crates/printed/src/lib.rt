@@ -1,4 +1,6 @@
 // The verdict on a book, strict or not, as the line that the program prints.
+#![tactic(auto)]
+
 ghost use Rattle.std.specs.Prelude.{◌≤◌, ◌≡◌, ◌++◌, length, take};
 ghost use Rattle.answers.specs.Answer.{words_of};
 ghost use Rattle.loaded.specs.Held.{held};

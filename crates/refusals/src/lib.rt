@@ -1,4 +1,6 @@
 // Which of 16, 17, 28, 1 and 2 a graph is refused with.
+#![tactic(auto)]
+
 ghost use Rattle.std.specs.Prelude.{◌≡◌, true, false, ℕ, ◌<◌, ◌≤◌};
 ghost use Rattle.rows.specs.Row.{row_count};
 ghost use Rattle.encoding.specs.Encoding.{row_bad};

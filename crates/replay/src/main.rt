@@ -1,5 +1,7 @@
 // Replays a fixed list of cases from standard input against the library.
 // Prints the first disagreeing lines, the number of cases and the number of disagreements.
+#![tactic(auto)]
+
 ghost use Rattle.std.specs.Prelude.{◌≡◌, true, ◌+◌, ◌≤◌, ◌<◌, length};
 ghost use Rattle.text.specs.Line.{words_in};
 ghost use Rattle.cases.specs.Case.{room};
@@ -8,7 +10,7 @@ ghost use Rattle.agreement.specs.Agrees.{Agrees};
 use libc::{STDIN_FILENO, STDOUT_FILENO};
 
 // Where the next line starts, how many cases are behind it, and how many of them disagree.
-#[derive(Drop)]
+#[derive(Clone, Copy)]
 struct Count {
     at: usize,
     cases: usize,

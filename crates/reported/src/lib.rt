@@ -1,4 +1,6 @@
 // Check, of either edition, and the verdict on a book, strict or not: their answers told in three words, and what acceptance means.
+#![tactic(auto)]
+
 ghost use Rattle.std.specs.Prelude.{◌≡◌, [], ◌∷◌};
 ghost use Rattle.answers.specs.Result.{told, told_of};
 ghost use Rattle.sorts.specs.Sorts.{edition};

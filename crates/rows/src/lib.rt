@@ -1,4 +1,6 @@
 // Node rows: the row reader, the accessors and the decoder.
+#![tactic(auto)]
+
 ghost use Rattle.std.specs.Prelude.{◌≡◌, ◌<◌, ◌/◌, length, get_or};
 ghost use Rattle.rows.specs.Row.{graph_number, row_count, ragged, row_at};
 ghost use Rattle.rows.specs.Node.{node_from, node_of, row_eq};
@@ -9,14 +11,14 @@ pub mod tag;
 pub const MAX: u64 = 0xffff_ffff_ffff_ffff;
 
 // Which graph a list of words holds.
-#[derive(Drop)]
+#[derive(Clone, Copy)]
 pub enum Graph {
     Source,
     Target,
 }
 
 // What a row says, by shape; a shape of several tags keeps its tag first.
-#[derive(Drop)]
+#[derive(Clone, Copy)]
 pub enum Node {
     // width
     Var(u64),

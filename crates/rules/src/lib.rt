@@ -1,4 +1,6 @@
 // The width rules: a table with a line for each tag, and what its rules and sources are, by the number of a row's operands.
+#![tactic(auto)]
+
 ghost use Rattle.std.specs.Prelude.{◌≡◌, cond, ℕ, ◌+◌, ◌-◌, leb};
 ghost use Rattle.rules.specs.Rule.{same};
 ghost use Rattle.rules.specs.Table.{from1, from_part, from_cell, from2, from3};

@@ -5,7 +5,7 @@ ghost use Rattle.rules.specs.Table.{table};
 use crate::{join, operand, source};
 
 // Operands (operand.rt); how widths join (join.rt); where the width comes from (source.rt).
-#[derive(Drop)]
+#[derive(Clone, Copy)]
 pub struct Line(pub u8, pub u8, pub u8);
 
 const TABLE: [Line; 39] = [

@@ -1,4 +1,6 @@
 // Side lists: the pairs of a Select and the arguments of a Call against the widths of earlier rows.
+#![tactic(auto)]
+
 ghost use Rattle.std.specs.Prelude.{◌≡◌, ◌+◌, ◌*◌, ◌<◌, ◌≤◌, length};
 ghost use Rattle.lists.specs.First.{none};
 ghost use Rattle.rules.specs.Rule.{has_width, pair_bad, chain_good, arg_bad, args_good};

@@ -1,4 +1,6 @@
 // The operations on one graph: each takes its lists from a case, calls the library, and compares the outcome.
+#![tactic(auto)]
+
 ghost use Rattle.std.specs.Prelude.{◌≡◌, true, [], ◌∷◌, ◌<◌, ◌≤◌, length};
 ghost use Rattle.answers.specs.Result.{told, told_of};
 ghost use Rattle.cases.specs.Case.{room};

@@ -1,4 +1,6 @@
 // The sorts of arrays: 32 and 8 for every array in a first edition, in a second what a table lists, entries of three words.
+#![tactic(auto)]
+
 ghost use Rattle.std.specs.Prelude.{◌≡◌, ℕ, ◌+◌, ◌*◌, ◌<◌, ◌≤◌, length, true};
 ghost use Rattle.sorts.specs.Sorts.{sort_count, array_at, index_at, cell_at, entry_of, edition, sorts_of, rises, sort_good, sort_answer};
 ghost use Rattle.sorts.specs.Good.{Good};
@@ -11,7 +13,7 @@ pub const INDEX_WIDTH: u64 = 32;
 pub const CELL_WIDTH: u64 = 8;
 
 // The widths of an array's index and of its cells.
-#[derive(Drop)]
+#[derive(Clone, Copy)]
 pub struct Sort {
     pub index: u64,
     pub cell: u64,

@@ -1,4 +1,6 @@
 // The stages of Check besides forms and rows: tables, roots, and the lists of a refusal.
+#![tactic(auto)]
+
 ghost use Rattle.std.specs.Prelude.{◌≡◌, true, length, replicate};
 ghost use Rattle.answers.specs.Answer.{is_accepted};
 ghost use Rattle.rows.specs.declared.Graph.{Graph};

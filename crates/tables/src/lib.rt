@@ -1,4 +1,6 @@
 // The two tables: one walk checks the entries of either in order, and each good one marks its variable.
+#![tactic(auto)]
+
 ghost use Rattle.std.specs.Prelude.{◌≡◌, length};
 ghost use Rattle.rows.specs.declared.Graph.{Graph};
 ghost use Rattle.rows.specs.Row.{row_count};

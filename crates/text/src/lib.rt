@@ -1,10 +1,12 @@
 // From text to words: lines, and in a line lower-case hexadecimal numbers with single spaces between.
+#![tactic(auto)]
+
 ghost use Rattle.std.specs.Prelude.{◌≡◌, ◌+◌, ◌-◌, ◌<◌, ◌≤◌, length, take, drop, slice_index, slice_range};
 ghost use Rattle.io.specs.Counts.{IsPrefixLen};
 ghost use Rattle.text.specs.Line.{digit_of, digits, number, good_digits, word_ends, token, words_in};
 
 // A word and where the next one starts; next is 0 where there is no good word.
-#[derive(Drop)]
+#[derive(Clone, Copy)]
 struct Token {
     value: u64,
     next: usize,

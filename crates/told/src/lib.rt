@@ -1,4 +1,6 @@
 // The operations on one graph and a book's sections, their answers told in three words.
+#![tactic(auto)]
+
 ghost use Rattle.std.specs.Prelude.{◌≡◌, [], ◌∷◌};
 ghost use Rattle.answers.specs.Answer.{words_of};
 ghost use Rattle.answers.specs.Result.{told, told_of};

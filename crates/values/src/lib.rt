@@ -1,4 +1,6 @@
 // The operation Values of a target graph.
+#![tactic(auto)]
+
 ghost use Rattle.std.specs.Prelude.{◌≡◌, [], ◌∷◌};
 ghost use Rattle.answers.specs.Result.{result_of};
 ghost use Rattle.values.specs.Values.{values};

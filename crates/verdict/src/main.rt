@@ -1,3 +1,5 @@
+#![tactic(auto)]
+
 // Reads a book and prints the verdict on it. Run here on a book that is accepted, from standard input; strict_verdict refuses it.
 fn main() {
     command::run(false);

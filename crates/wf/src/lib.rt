@@ -1,4 +1,6 @@
 // Well-formedness of a graph: each row against the widths of the rows before it.
+#![tactic(auto)]
+
 ghost use Rattle.std.specs.Prelude.{◌≡◌, true, false, List, ◌++◌, ℕ, ◌<◌, ◌≤◌, length, get_or, drop};
 ghost use Rattle.rows.specs.Row.{row_count, row_at};
 ghost use Rattle.rows.specs.Tags.{t_select};

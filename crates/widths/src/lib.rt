@@ -1,4 +1,6 @@
 // The operations Source widths, Target widths and Roots.
+#![tactic(auto)]
+
 ghost use Rattle.std.specs.Prelude.{◌≡◌, [], ◌∷◌, ◌≤◌, length};
 ghost use Rattle.answers.specs.Result.{result_of, leaves};
 ghost use Rattle.sorts.specs.Sorts.{edition, sorts_of};
