@@ -1,0 +1,80 @@
+-- Invariant: after l of k pairs, the walk from the current row along the rest is the whole walk. Assumes nothing.
+use Prim.Native.Nat.{◌≤◌, ◌+◌, ◌*◌, ◌-◌}
+use mathlib.Core.Path.{◌≡◌, ◌∙◌, sym, ap}
+use mathlib.Core.Logic.{⊎_elim}
+use native.Mathlib.Nat.{add-zero, sub-zero}
+use native.Mathlib.Omega.{arith}
+use Rattle.lowering.specs.declared.Walk.{Walk}
+use Rattle.lowering.specs.Lowering.{source_graph}
+use Rattle.lowering.specs.Matching.{walk}
+use Rattle.chains.specs.Step.{onward}
+use Rattle.chains.proofs.Walk.{along, walk_end, walk_step, onward-stays}
+use Rattle.chains.proofs.chain_walk.Goals as goal
+
+abbrev invariant-pairs : tie.invariant-pairs
+invariant-pairs source ebits eside map target j k s r q b row₀ l₀ row l =
+    (l ≤ k) × (walk (source_graph source ebits eside) map target j k s r ≡ walk (source_graph source ebits eside) map target j (k - l) (s + 2 * l) row)
+
+abbrev decreases-pairs : tie.decreases-pairs
+decreases-pairs source ebits eside map target j k s r q b row₀ l₀ row l = k - l
+
+pub returns-then-k-eq0 : goal.returns-then-k-eq0
+unfolding walk
+returns-then-k-eq0 c = record { stop = rw c.if-k-eq0.true }
+
+pub pairs-init : goal.pairs-init
+pairs-init c = (omega arith, rw (add-zero, sub-zero))
+
+pub overflow_mul-at : goal.overflow_mul-at
+overflow_mul-at c =
+    let h = c.requires.pairs_within _ c.if-k-l.false in omega (arith, h.0)
+
+pub overflow_add-at : goal.overflow_add-at
+overflow_add-at c =
+    let h = c.requires.pairs_within _ c.if-k-l.false in omega (arith, h.0)
+
+pub pair_step-step-requires : goal.pair_step-step-requires
+pair_step-step-requires c = record {
+  s_in_bounds = let p = c.requires in p.1.0 _ c.if-k-l.false;
+  consts_within = let p = c.requires in (p.1.1, rw c.row-q.ensures.row (p.1.1 _ p.0));
+}
+
+pub pairs-preserved : goal.pairs-preserved
+pairs-preserved c =
+    let at-map-at = c.before.before.before.before.before.before in
+    let at_row = at-map-at.before in
+    let at-start = at_row.before.before.before.before.before.before.before in
+    let s = at-start.args in
+    let w = along (source_graph s.source.now s.ebits.now s.eside.now) s.map.now s.target.now s.j in
+    let l = c.pairs in (
+      omega arith,
+      l.invariant.1 ∙ walk_step _ _ _ _ s.k s.s l.l l.row c.if-k-l.false
+          ∙ ap (λ (z : Walk). onward z (w (s.k - (l.l + 1)) (s.s + 2 * (l.l + 1))))
+          (sym (rw (at_row.row-q.ensures.row, at-map-at.map_at-b.ensures.row) at c.pair_step-step.ensures.step)
+          ∙ c.step-1.given.1),
+    )
+
+pub returns-then-k-l : goal.returns-then-k-l
+returns-then-k-l c = record {
+  stop =
+      let s = c.args in
+      let l = c.pairs in
+      sym (l.invariant.1 ∙ walk_end _ _ _ _ s.k s.s l.l l.row c.if-k-l.true);
+}
+
+pub returns-in_default : goal.returns-in_default
+returns-in_default c = record {
+  stop =
+      let at-else1 = c.before.before.before.before.before.before in
+      let at-start = at-else1.before.before.before.before.before.before in
+      let s = at-start.args in
+      let w = along (source_graph s.source.now s.ebits.now s.eside.now) s.map.now s.target.now s.j in
+      let l = c.pairs in
+      sym (l.invariant.1 ∙ walk_step _ _ _ _ s.k s.s l.l l.row c.if-k-l.false
+      ∙ ap (λ (z : Walk). onward z (w (s.k - (l.l + 1)) (s.s + 2 * (l.l + 1))))
+      (sym (rw (
+        c.row-q.ensures.row,
+        c.map_at-b.ensures.row,
+      ) at c.pair_step-step.ensures.step))
+      ∙ onward-stays _ _ (λ z e. ⊎_elim (λ h. omega arith) (λ h. omega arith) (rw e at c.in_default.keys2)));
+}

@@ -1,0 +1,32 @@
+-- Each arm is the definition at its table. Assumes nothing.
+use Prim.Native.Nat.{◌+◌, ◌*◌, ◌≤◌}
+use mathlib.Core.Path.{refl}
+use lib.ListN.{length}
+use borrow.Author.Rules.{rules}
+use Rattle.entries.proofs.sort_in.Goals as goal
+
+-- a read entry is whole
+read_whole : (c : goal.In-Reads)
+    → c.args.k * 3 + 3 ≤ length c.args.table.now
+read_whole c = rw c.enum_told-1.given.1 at c.requires.which_in_bounds
+
+pub overflow_mul-k : goal.overflow_mul-k
+overflow_mul-k c = let h = read_whole c in search rules
+
+pub overflow_add-k : goal.overflow_add-k
+overflow_add-k c = let h = read_whole c in search rules
+
+pub offset_bounds-table-k : goal.offset_bounds-table-k
+offset_bounds-table-k c = let h = read_whole c in search rules
+
+pub bounds-table-k : goal.bounds-table-k
+bounds-table-k c = let h = read_whole c.before in search rules
+
+pub sort_of-requires : goal.sort_of-requires
+sort_of-requires c = rw c.enum_told-1.given.1 at c.requires.sorted
+
+pub returns-in-Reads : goal.returns-in-Reads
+returns-in-Reads c = record { sort = rw c.enum_told-1.given.1 c.sort_of.ensures.sort }
+
+pub returns-in-Calls : goal.returns-in-Calls
+returns-in-Calls c = record { sort = rw c.enum_told-in-Calls-1.given.1 (refl, refl) }

@@ -1,0 +1,69 @@
+-- The counts by the number of words of sections 1 and 9, then the room for all words. Assumes nothing.
+use Prim.Native.Nat.{ℕ}
+use mathlib.Core.Path.{◌≡◌, sym, ap, ◌∙◌}
+use native.Mathlib.Omega.{arith}
+use borrow.Author.Tests.{not-true, not-false}
+use lib.ListN.{length}
+use Rattle.contents.proofs.Editions.{sections-low}
+use Rattle.book.proofs.Shape.{first_word}
+use Rattle.bodies.specs.Words.{loaded}
+use Rattle.loaded.specs.Held.{held, book_words}
+use Rattle.loaded.proofs.Held.{counts-refused, words-short, room-good}
+use borrow.Author.Rules.{rules}
+use Rattle.loaded.proofs.room_answer.Goals as goal
+
+pub word_count-requires : goal.word_count-requires
+word_count-requires c = let h = sections-low c.args.book.now in search rules
+
+pub word_count-requires-2 : goal.word_count-requires-2
+word_count-requires-2 c = let h = sections-low c.args.book.now in search rules
+
+pub returns-then-not-is_accepted : goal.returns-then-not-is_accepted
+returns-then-not-is_accepted c = record {
+  answer =
+      let s = c.args in
+      let b = s.book.now in
+      counts-refused b _ _ _ _ _ _ (c.count_answer-a.ensures.answer (held b).source (held b).target
+      (sym c.word_count.ensures.count) (sym c.word_count-2.ensures.count))
+      (sym c.is_accepted.ensures.test ∙ not-true _ c.if-not-is_accepted.true);
+}
+
+pub sections-n-requires : goal.sections-n-requires
+sections-n-requires c =
+    let s = c.before.before.before.before.before.before in
+    first_word s.args.book.now s.requires
+
+pub offset-requires : goal.offset-requires
+offset-requires c =
+    let s = c.before.before.before.before.before.before.before in
+    (omega (arith, c.sections-n.ensures.count, sections-low s.args.book.now), s.requires)
+
+-- all words are counted
+counted : (c : goal.After-offset)
+    → c.offset.result ≡ length (book_words c.args.book.now)
+counted c =
+    let b = c.args.book.now in
+    let e : c.offset.result ≡ length (loaded b c.sections-n.result) = c.offset.ensures.count in
+    e ∙ ap (λ (n : ℕ). length (loaded b n)) c.sections-n.ensures.count
+
+pub returns-then-room-offset : goal.returns-then-room-offset
+returns-then-room-offset c = record {
+  answer =
+      let t = c.before.before.before in
+      let s = t.args in
+      let b = s.book.now in
+      words-short b _ _ _ _ _ _ (t.before.before.count-answer.ensures (held b).source (held b).target
+      (sym t.word_count.ensures.count) (sym t.word_count-2.ensures.count))
+      (sym t.is_accepted.ensures.test ∙ not-false _ t.if-not-is_accepted.false) _ (counted c.before) c.if-room-offset.true;
+}
+
+pub returns : goal.returns
+returns c = record {
+  answer =
+      let t = c.before.before.before in
+      let s = t.args in
+      let b = s.book.now in
+      room-good b _ _ _ _ _ _ (t.before.before.count-answer.ensures (held b).source (held b).target
+      (sym t.word_count.ensures.count) (sym t.word_count-2.ensures.count))
+      (sym t.is_accepted.ensures.test ∙ not-false _ t.if-not-is_accepted.false) _ (counted c.before) c.if-room-offset.false;
+}

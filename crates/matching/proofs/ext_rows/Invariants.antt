@@ -1,0 +1,17 @@
+-- Invariant: no row before i is refused, and the classes are those before row i; the loop is the search for the first refusal. Assumes nothing.
+use Prim.Native.Nat.{ℕ, ◌≤◌, ◌<◌, ◌-◌}
+use mathlib.Core.Path.{◌≡◌}
+use mathlib.Core.Bool.{false}
+use lib.ListN.{length}
+use Rattle.lowering.specs.Lowering.{binding}
+use Rattle.lowering.specs.Matching.{noted}
+use Rattle.matching.proofs.Loop.{before, refused}
+use Rattle.matching.proofs.ext_rows.Given as goal
+
+abbrev pub invariant-loop-i : goal.invariant-loop-i
+invariant-loop-i l =
+    (l.i ≤ l.n) × (length l.cls ≡ length l.initial.cls) × (l.cls ≡ before (binding l.source l.ebits l.eside l.map l.reads l.calls l.cargs l.target l.tbits) (noted l.initial.cls l.ent) l.i) ×
+    ((j : ℕ) → j < l.i → refused (binding l.source l.ebits l.eside l.map l.reads l.calls l.cargs l.target l.tbits) (noted l.initial.cls l.ent) j ≡ false)
+
+abbrev pub decreases-loop-i : goal.decreases-loop-i
+decreases-loop-i l = l.n - l.i

@@ -1,0 +1,97 @@
+-- By the tag word, which says the row's kind: the kind's function answers as the definition does at that kind. Assumes nothing.
+use mathlib.Core.Path.{refl, sym}
+use Rattle.answers.specs.declared.Answer.TheVariants.{VarClass, ConstMismatch, NodeMismatch, ChainMismatch, CallMismatch}
+use Rattle.lists.proofs.Choice.{cond_same}
+use Rattle.lowering.specs.Lowering.{Binding, binding}
+use Rattle.lowering.specs.Matching.{Noted, noted}
+use Rattle.matching.proofs.Rows.{var-answer, var-classes, const-answer, const-classes, select-answer, select-classes, call-answer}
+use Rattle.matching.proofs.Rows.{call-classes, plain-answer, plain-classes}
+use Rattle.matching.proofs.Outcome.{consts-target, const-ready, select-ready, call-ready, plain_ready, outcome}
+use Rattle.matching.proofs.row_corr.Goals as goal
+
+-- the start, from the first place past what is known of the lists
+abbrev start : goal.After-row-e → goal.Start
+start c = let lists = c.before.before.before.before.before.before.before.before in lists.before.before.before.before
+
+abbrev asked : goal.Start → Binding
+asked c =
+    let s = c.args in
+    binding s.source.now s.ebits.now s.eside.now s.map.now s.reads.now s.calls.now s.cargs.now s.target.now
+    s.tbits.now
+
+abbrev known : goal.Start → Noted
+known c = let s = c.args in noted s.cls.now s.ent.now
+
+pub const_corr-requires : goal.const_corr-requires
+const_corr-requires c =
+    let p = (start c.before).requires in
+    (p.1.1.1, const-ready _ _ p.0 _ p.1.1.0 _ c.row-e.ensures.row, consts-target _ _ p.0)
+
+pub select_corr-requires : goal.select_corr-requires
+select_corr-requires c = record {
+  e_bound = let p = (start c.before.before).requires in select-ready _ _ p.0 _ p.1.1.0 _ c.row-e.ensures.row c.in-37.is;
+  ent_len = let p = (start c.before.before).requires in p.1.0;
+}
+
+pub call_corr-requires : goal.call_corr-requires
+call_corr-requires c = record {
+  r_bound = let p = (start c.before.before).requires in (p.1.1.1, p.1.0.0, p.1.0.1);
+  args_within = let p = (start c.before.before).requires in call-ready _ _ p.0 _ p.1.1.0 _ c.row-e.ensures.row c.in-38.is;
+}
+
+pub returns-in-0 : goal.returns-in-0
+returns-in-0 c =
+    let at_row = c.before.before.before.before.before.before in
+    let at-start = start at_row in
+    let s = at-start.args in
+    let q = at_row.row-e.ensures.row in
+    let t = c.in-0.is in
+    outcome _ _ (VarClass s.i) _ _ _ _ _ _ refl c.var_corr.ensures.test c.var_corr.ensures.list
+    c.matched.ensures.answer (var-answer (asked at-start) (known at-start) s.i s.r _ q t)
+    (var-classes (asked at-start) (known at-start) s.i s.r _ q t)
+
+pub returns-in-1 : goal.returns-in-1
+returns-in-1 c =
+    let at_row = c.before.before.before in
+    let at-start = start at_row in
+    let s = at-start.args in
+    let q = at_row.row-e.ensures.row in
+    let t = c.in-1.is in
+    outcome _ _ (ConstMismatch s.i) _ _ _ _ _ _ refl c.const_corr.ensures.test
+    (sym (cond_same c.const_corr.result s.cls.now)) c.matched-in-1.ensures.answer
+    (const-answer (asked at-start) (known at-start) s.i s.r _ q t) (const-classes (asked at-start) (known at-start) s.i s.r _ q t)
+
+pub returns-in-37 : goal.returns-in-37
+returns-in-37 c =
+    let at_row = c.before.before.before.before.before.before in
+    let at-start = start at_row in
+    let s = at-start.args in
+    let q = at_row.row-e.ensures.row in
+    let t = c.in-37.is in
+    outcome _ _ (ChainMismatch s.i) _ _ _ _ _ _ refl c.select_corr.ensures.test
+    c.select_corr.ensures.list c.matched-in-37.ensures.answer (select-answer (asked at-start) (known at-start) s.i s.r _ q t)
+    (select-classes (asked at-start) (known at-start) s.i s.r _ q t)
+
+pub returns-in-38 : goal.returns-in-38
+returns-in-38 c =
+    let at_row = c.before.before.before.before.before.before in
+    let at-start = start at_row in
+    let s = at-start.args in
+    let q = at_row.row-e.ensures.row in
+    let t = c.in-38.is in
+    outcome _ _ (CallMismatch s.i) _ _ _ _ _ _ refl c.call_corr.ensures.test
+    c.call_corr.ensures.list c.matched-in-38.ensures.answer (call-answer (asked at-start) (known at-start) s.i s.r _ q t)
+    (call-classes (asked at-start) (known at-start) s.i s.r _ q t)
+
+pub returns-in_default : goal.returns-in_default
+returns-in_default c =
+    let at_row = c.before.before.before in
+    let at-start = start at_row in
+    let p = at-start.pre in
+    let s = at-start.args in
+    let q = at_row.row-e.ensures.row in
+    let n = c.in_default.in_default-own in
+    let t = plain_ready _ _ p.0 _ p.1.1.0 _ q n.0.0.0.1 n.0.0.1 n.0.1 n.1 in
+    outcome _ _ (NodeMismatch s.i) _ _ _ _ _ _ refl c.node_corr.ensures.test (sym (cond_same c.node_corr.result s.cls.now))
+    c.matched-in_default.ensures.answer (plain-answer (asked at-start) (known at-start) s.i s.r _ q t)
+    (plain-classes (asked at-start) (known at-start) s.i s.r _ q t)

@@ -1,0 +1,8 @@
+-- The length by the graph's row length, arm by arm. Assumes nothing.
+use Rattle.rows.proofs.row_count.Goals as goal
+
+pub returns-in-Source : goal.returns-in-Source
+returns-in-Source c = record { count = rw c.enum_told-1.given.1 }
+
+pub returns-in-Target : goal.returns-in-Target
+returns-in-Target c = record { count = rw c.enum_told-in-Target-1.given.1 }

@@ -1,0 +1,25 @@
+-- A second edition's pass, or one part with one sort. Assumes nothing.
+use mathlib.Core.Path.{refl}
+use native.Mathlib.Omega.{arith}
+use Rattle.sorts.specs.Sorts.{plain}
+use Rattle.wf.proofs.Parts.{at-start, at-stop}
+use Rattle.wf.proofs.graph_wf.Goals as goal
+
+pub parts_wf-requires : goal.parts_wf-requires
+parts_wf-requires c = record {
+  good = let p = c.requires in rw c.if-second.true at p.0;
+  g_in_bounds = let p = c.requires in p.1;
+}
+
+pub returns-then-second : goal.returns-then-second
+returns-then-second c = rw c.if-second.true c.parts_wf.ensures
+
+pub returns : goal.returns
+returns c =
+    let s = c.args in
+    let e = c.row_count-n.ensures.count in
+    let told = c.rows_wf.ensures in
+    let (reached, stops) =
+    told.1 plain s.ws.now (λ i h k t. (refl, refl)) (at-start plain s.graph s.nbits s.side.now s.g.now s.ws.now) in
+    rw c.if-second.false
+    (at-stop _ _ _ _ _ _ _ _ reached (omega (arith, e, told.0.1)) (λ h. stops (omega (arith, e, h))))

@@ -1,0 +1,155 @@
+use Prim.Native.Nat.{ℕ, ◌+◌, ◌≤◌, ◌<◌, ◌-◌}
+use mathlib.Core.Path.{◌≡◌, refl, ◌∙◌, sym, ap}
+use mathlib.Core.Bool.{true}
+use mathlib.Core.List.{List, ◌++◌}
+use native.Mathlib.Omega.{arith}
+use borrow.Author.Count.{below_more}
+use borrow.Author.Tests.{eq-eqb, ne_eqb, le-ltb}
+use lib.ListN.{length, get_or, set, take, drop, length-set}
+use lib.Seq.{length-take-le}
+use Rattle.lists.specs.Build.{build}
+use Rattle.lists.proofs.Build.{build-front, build-store}
+use Rattle.encoding.specs.Encoding.{tag_count}
+use Rattle.encoding.proofs.Encoding.{tags-in}
+use Rattle.sorts.specs.Sorts.{Sorts}
+use Rattle.sorts.specs.Every.{every}
+use Rattle.rules.specs.Rule.{capped}
+use Rattle.rules.proofs.Rule.{capped-in, capped-over}
+use Rattle.wf.proofs.Stop.{good-width, line-good}
+use Rattle.wf.proofs.Parts.{part-width}
+use Rattle.wf.specs.Widths.{row_width, widths_to}
+use Rattle.wf.specs.Pass.{good_width, row_stops, OneSort, Reached}
+use Rattle.wf.proofs.rows_wf.Goals as goal
+
+-- a width stored behind those before it
+stored : (f : ℕ → List ℕ → ℕ) (ws₀ ws : List ℕ) (i w : ℕ) → ws ≡ build f i ++ drop i ws₀ → w ≡ f i (build f i) → i < length ws₀
+    → set ws i w ≡ build f (i + 1) ++ drop (i + 1) ws₀
+stored f ws₀ ws i w e q h = rw (e, q) (build-store f ws₀ 0 i h)
+
+pub loop-i-init : goal.loop-i-init
+loop-i-init c = (omega arith, c.requires.from_le_to.0, refl, λ σ base one start. start)
+
+pub row-r-requires : goal.row-r-requires
+row-r-requires c = omega (arith, c.loop-i-test.true, c.requires.from_le_to.1)
+
+pub returns-then-tags-r : goal.returns-then-tags-r
+returns-then-tags-r c = record {
+  place = let l = c.loop-i in
+      let bad = le-ltb _ _ (rw (c.tag_count-tags.ensures.count, c.row-r.ensures.row) at c.if-tags-r.true) in (l.invariant.0, l.invariant.1);
+  part = let l = c.loop-i in
+      let bad = le-ltb _ _ (rw (c.tag_count-tags.ensures.count, c.row-r.ensures.row) at c.if-tags-r.true) in λ σ base one start. (l.invariant.3 σ base one start, λ h. rw bad);
+}
+
+-- the tag is one of the graph's, so it has a line
+below : (c : goal.Else-tags-r)
+    → get_or c.row-r.result 0 0 < tag_count c.args.graph
+below c = rw c.tag_count-tags.ensures.count at c.if-tags-r.false
+
+tag_in : (c : goal.Else-tags-r) → get_or c.row-r.result 0 0 < 39
+tag_in c = omega (arith, below c, tags-in c.args.graph)
+
+pub offset_bounds-lines-t : goal.offset_bounds-lines-t
+offset_bounds-lines-t c = let h = tag_in c in record { fits = omega (arith, h) }
+
+pub bounds-lines-t : goal.bounds-lines-t
+bounds-lines-t c = tag_in c
+
+-- from a row's width: its turn of the loop, and where the function was entered
+abbrev turn : goal.After-line_width-w → goal.At-loop-i
+turn c = c.before.before.before.before.before.before
+
+abbrev entry : goal.After-line_width-w → goal.Start
+entry c = (turn c).before.before.before.before.before
+
+pub slice_bounds-line_width-end : goal.slice_bounds-line_width-end
+slice_bounds-line_width-end c =
+    let p = c.requires.from_le_to in
+    omega (arith, c.loop-i-test.true, c.loop-i.invariant.2, p.1, p.2)
+
+pub slice_bounds-line_width-end-in-loop-i : goal.slice_bounds-line_width-end-in-loop-i
+slice_bounds-line_width-end-in-loop-i c = sym (length-take-le _ _ (slice-reshare-prefix-line-width c.before))
+
+-- what the call gives, over the widths before row i, within the ceiling
+width_is : (c : goal.After-line_width-w)
+    → let s = (entry c).args in
+    let l = (turn c).loop-i in
+    (σ : Sorts) (base : List ℕ) → OneSort σ s.graph s.g.now s.from s.to s.sort.index s.sort.cell
+    → Reached σ s.graph s.nbits s.side.now s.g.now base l.ws l.i
+    → capped c.line_width-w.result
+    ≡ good_width σ s.graph s.nbits s.side.now s.g.now l.i (widths_to σ s.graph s.nbits s.side.now s.g.now l.i)
+width_is c σ base one reached =
+    let s = (entry c).args in
+    let l = (turn c).loop-i in
+    let row = c.row-r in
+    ap capped c.line_width-w.ensures.width
+    ∙ line-good (every s.sort.index s.sort.cell) s.graph s.nbits s.side.now s.g.now l.i (take l.i l.ws) s.t1
+    row.result (entry c).requires.lines_value row.ensures (below c.before.before.before)
+    ∙ part-width σ s.graph s.nbits s.side.now s.g.now s.from s.to s.sort.index s.sort.cell l.i (take l.i l.ws)
+    one l.inv.0 c.loop-i-test.true
+    ∙ ap (good_width σ s.graph s.nbits s.side.now s.g.now l.i) (ap (take l.i) reached.list ∙ build-front _ l.i _)
+
+-- a row without one is where the pass stops
+stops : (c : goal.After-line_width-w) → capped c.line_width-w.result ≡ 0
+    → let s = (entry c).args in
+    let l = (turn c).loop-i in
+    ((s.from ≤ l.i) × (l.i ≤ s.to)) ×
+    ((σ : Sorts) (base : List ℕ) → OneSort σ s.graph s.g.now s.from s.to s.sort.index s.sort.cell
+    → Reached σ s.graph s.nbits s.side.now s.g.now base s.ws.now s.from
+    → Reached σ s.graph s.nbits s.side.now s.g.now base l.ws l.i
+    × (l.i < s.to → row_stops σ s.graph s.nbits s.side.now s.g.now l.i ≡ true))
+stops c e =
+    let l = (turn c).loop-i in (
+      (l.inv.0, l.inv.1),
+      λ σ base one start.
+          let reached = l.inv.3 σ base one start in
+          (reached, λ h. eq-eqb _ _ (sym (width_is c σ base one reached) ∙ e)),
+    )
+
+pub returns-then-w-eq0 : goal.returns-then-w-eq0
+returns-then-w-eq0 c = stops c.before (ap capped c.if-w-eq0.true)
+
+pub returns-then-w-gt-CEILING : goal.returns-then-w-gt-CEILING
+returns-then-w-gt-CEILING c =
+    let told = c.before.before in
+    stops told (capped-over told.line_width-w.result (omega arith))
+
+pub bounds-ws-i : goal.bounds-ws-i
+bounds-ws-i c =
+    let told = c.before.before in
+    let p = (entry told).requires.from_le_to in
+    omega (arith, told.loop-i-test.true, (turn told).loop-i.invariant.2, p.1, p.2)
+
+-- the next row is reached
+on : (c : goal.After-line_width-w) → (c.line_width-w.result ≡ 0 → ⊥) → c.line_width-w.result ≤ 4096
+    → let s = (entry c).args in
+    let l = (turn c).loop-i in
+    (σ : Sorts) (base : List ℕ) → OneSort σ s.graph s.g.now s.from s.to s.sort.index s.sort.cell
+    → Reached σ s.graph s.nbits s.side.now s.g.now base s.ws.now s.from
+    → Reached σ s.graph s.nbits s.side.now s.g.now base (set l.ws l.i c.line_width-w.result) (l.i + 1)
+on c some in-ceiling σ base one start =
+    let s = (entry c).args in
+    let l = (turn c).loop-i in
+    let reached = l.inv.3 σ base one start in
+    let width = sym (capped-in c.line_width-w.result in-ceiling) ∙ width_is c σ base one reached in
+    let goes = ne_eqb _ _ (λ z. some (width ∙ z)) in
+    let p = (entry c).requires.from_le_to in
+    let room : l.i < length base =
+    omega (arith, reached.whole, l.inv.2, c.loop-i-test.true, p.1, p.2) in
+    record {
+      whole = simp length-set reached.whole;
+      list = stored (row_width σ s.graph s.nbits s.side.now s.g.now) base l.ws l.i _ reached.list
+          (width ∙ good-width σ s.graph s.nbits s.side.now s.g.now l.i goes) room;
+      on = below_more _ _ reached.on goes;
+    }
+
+pub loop-i-preserved : goal.loop-i-preserved
+loop-i-preserved c =
+    let told = c.before.before in
+    let l = (turn told).loop-i in
+    (omega arith, omega arith, simp length-set l.inv.2, on told c.if-w-eq0.false (omega arith))
+
+pub returns : goal.returns
+returns c = record {
+  place = let l = c.loop-i in (l.invariant.0, l.invariant.1);
+  part = let l = c.loop-i in λ σ base one start. (l.invariant.3 σ base one start, λ h. absurd (omega arith));
+}
