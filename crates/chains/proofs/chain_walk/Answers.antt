@@ -1,4 +1,3 @@
--- Invariant: after l of k pairs, the walk from the current row along the rest is the whole walk. Assumes nothing.
 use Prim.Native.Nat.{◌≤◌, ◌+◌, ◌*◌, ◌-◌}
 use mathlib.Core.Path.{◌≡◌, ◌∙◌, sym, ap}
 use mathlib.Core.Logic.{⊎_elim}
@@ -10,13 +9,6 @@ use Rattle.lowering.specs.Matching.{walk}
 use Rattle.chains.specs.Step.{onward}
 use Rattle.chains.proofs.Walk.{along, walk_end, walk_step, onward-stays}
 use Rattle.chains.proofs.chain_walk.Goals as goal
-
-abbrev invariant-pairs : tie.invariant-pairs
-invariant-pairs source ebits eside map target j k s r q b row₀ l₀ row l =
-    (l ≤ k) × (walk (source_graph source ebits eside) map target j k s r ≡ walk (source_graph source ebits eside) map target j (k - l) (s + 2 * l) row)
-
-abbrev decreases-pairs : tie.decreases-pairs
-decreases-pairs source ebits eside map target j k s r q b row₀ l₀ row l = k - l
 
 pub returns-then-k-eq0 : goal.returns-then-k-eq0
 unfolding walk
