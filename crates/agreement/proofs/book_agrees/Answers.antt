@@ -3,7 +3,6 @@ use mathlib.Core.Path.{◌∙◌, sym, ap}
 use mathlib.Core.List.{List}
 use Prim.Native.Nat.{ℕ}
 use mathlib.Core.Bool.{false≢true}
-use borrow.Author.Tests.{not-false}
 use Rattle.answers.specs.Answer.{words_of}
 use Rattle.judge.specs.Judge.{verdict_by}
 use Rattle.agreement.proofs.book_agrees.Goals as goal
@@ -23,9 +22,9 @@ returns c = record {
       let else1 = at-given.before in
       let at-has-shape = else1.before in
       let s = at-has-shape.args in
-      let book = at-copy-bytes.copy_bytes.ensures.copied (not-false _ else2.if-not-copy_bytes.false) ∙ at-given.given-list.ensures.list in
+      let book = at-copy-bytes.copy_bytes.ensures.copied (else2.if-not-copy_bytes.false) ∙ at-given.given-list.ensures.list in
       let words =
       c.words_of.ensures.words ∙ ap words_of c.verdict-a.ensures.answer
       ∙ ap (λ (x : List ℕ). words_of (verdict_by s.strict x)) book in
-      λ e. (sym at-has-shape.has_shape.ensures.shape ∙ not-false _ else1.if-not-has_shape.false, sym words ∙ c.same_answer.ensures.equal.0 e);
+      λ e. (sym at-has-shape.has_shape.ensures.shape ∙ else1.if-not-has_shape.false, sym words ∙ c.same_answer.ensures.equal.0 e);
 }

@@ -1,7 +1,6 @@
 -- The answer and the stretch, each by its test. Assumes nothing.
 use mathlib.Core.Path.{◌∙◌, sym}
 use mathlib.Core.Bool.{false≢true}
-use borrow.Author.Tests.{not-false}
 use Rattle.agreement.proofs.same_stretch.Goals as goal
 
 pub returns-then-not-same_answer : goal.returns-then-not-same_answer
@@ -12,7 +11,7 @@ returns c = record {
   agreed =
       let a = c.before.before.before.before in
       λ e. (
-        sym a.gilfrunt_section_answer-a.ensures.answer ∙ a.same_answer.ensures.equal.0 (not-false _ c.if-not-same_answer.false),
+        sym a.gilfrunt_section_answer-a.ensures.answer ∙ a.same_answer.ensures.equal.0 (c.if-not-same_answer.false),
         sym c.section.ensures.stretch ∙ c.same_bytes.ensures.equal.0 e ∙ c.expected.ensures.list,
       );
 }

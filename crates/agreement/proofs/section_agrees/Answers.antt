@@ -4,7 +4,6 @@ use mathlib.Core.List.{List}
 use Prim.Native.Nat.{ℕ}
 use lib.ListN.{get_or}
 use mathlib.Core.Bool.{false≢true}
-use borrow.Author.Tests.{not-false}
 use Rattle.cases.specs.Case.{given}
 use Rattle.agreement.specs.Agrees.{SameSection}
 use Rattle.agreement.proofs.section_agrees.Goals as goal
@@ -20,11 +19,11 @@ returns c = record {
   agreed =
       let w = c.args.words.now in
       let book =
-      c.copy_bytes.ensures.copied (not-false _ c.if-not-copy_bytes.false)
+      c.copy_bytes.ensures.copied (c.if-not-copy_bytes.false)
       ∙ c.given-list.ensures.list in
       λ e. (
         sym c.has_shape.ensures.shape
-            ∙ not-false _ c.if-not-has_shape.false,
+            ∙ c.if-not-has_shape.false,
         (c.same_section.ensures.agreed e).0,
         subst (λ (l : List ℕ). SameSection w l (get_or (given w 1) 0 0)) book (c.same_section.ensures.agreed e).1,
       );

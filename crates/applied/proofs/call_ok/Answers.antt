@@ -1,11 +1,11 @@
 -- The definition's seven tests in its order; an entry and its arguments are read only after the tests that they lie in their lists. Assumes nothing.
 use Prim.Native.Nat.{◌+◌, ◌≤◌}
-use mathlib.Core.Path.{◌≡◌}
+use mathlib.Core.Path.{◌≡◌, sym, ◌∙◌}
 use mathlib.Core.Bool.{true}
 use native.Mathlib.Omega.{arith}
 use borrow.Author.Tests.{le-leb, eq-eqb, ne_eqb}
 use lib.ListN.{length, get_or}
-use Rattle.lists.proofs.Choice.{last-test, tested-no, tested-yes}
+use Rattle.lists.proofs.Choice.{last-test}
 use Rattle.lists.proofs.Tests.{within-le}
 use Rattle.lists.specs.Tests.{all}
 use Rattle.rows.specs.declared.Graph.TheVariants.{Target}
@@ -31,10 +31,10 @@ start c = c.before.before.before.before.before.before.before.before.before.befor
 
 -- what each test has said: the image is a Var of the width, of a call's class, its entry lies in the table
 image-var : (c : goal.Else-not-row_is_var) → (let s = (start c).args in row_is (row_at Target s.target.now s.r) (Var (get_or s.t8 2 0)) ≡ true)
-image-var c = tested-yes _ _ (rw c.row.ensures.row at c.row_is_var.ensures.test) c.if-not-row_is_var.false
+image-var c = sym (rw c.row.ensures.row at c.row_is_var.ensures.test) ∙ c.if-not-row_is_var.false
 
 class-call : (c : goal.Else-not-call_class) → (let s = (start (image-tested c)).args in either (get_or s.cls.now s.r 0) 3 5 ≡ true)
-class-call c = tested-yes _ _ c.call_class.ensures.test c.if-not-call_class.false
+class-call c = sym c.call_class.ensures.test ∙ c.if-not-call_class.false
 
 entry_in : (c : goal.Else-not-within) → (let s = (start (image-tested (class-tested c))).args in get_or s.ent.now s.r 0 + 4 ≤ length s.calls.now)
 entry_in c =
@@ -43,18 +43,18 @@ entry_in c =
 
 pub returns-then-not-row_is_var : goal.returns-then-not-row_is_var
 unfolding call_matches all
-returns-then-not-row_is_var c = record { test = rw (tested-no _ _ (rw c.row.ensures.row at c.row_is_var.ensures.test) c.if-not-row_is_var.true) }
+returns-then-not-row_is_var c = record { test = rw (sym (rw c.row.ensures.row at c.row_is_var.ensures.test) ∙ c.if-not-row_is_var.true) }
 
 pub returns-then-not-call_class : goal.returns-then-not-call_class
 unfolding call_matches all
-returns-then-not-call_class c = record { test = rw (image-var c.before.before.before, tested-no _ _ c.call_class.ensures.test c.if-not-call_class.true) }
+returns-then-not-call_class c = record { test = rw (image-var c.before.before.before, sym c.call_class.ensures.test ∙ c.if-not-call_class.true) }
 
 pub returns-then-not-within : goal.returns-then-not-within
 unfolding call_matches all
 returns-then-not-within c = record {
   test =
       let at-class = c.before.before.before in
-      rw (image-var (image-tested at-class), class-call at-class, tested-no _ _ c.within.ensures.test c.if-not-within.true);
+      rw (image-var (image-tested at-class), class-call at-class, sym c.within.ensures.test ∙ c.if-not-within.true);
 }
 
 pub overflow_add-at : goal.overflow_add-at
@@ -121,7 +121,7 @@ returns-then-not-within-2 c = record {
         le-leb _ _ (entry_in at_entry_lem),
         eq-eqb _ _ at_count.before.before.if4.false,
         eq-eqb _ _ at_count.if-calls-at-2.false,
-        tested-no _ _ c.within-2.ensures.test c.if-not-within-2.true,
+        sym c.within-2.ensures.test ∙ c.if-not-within-2.true,
       );
 }
 
@@ -146,7 +146,7 @@ returns c = record {
         le-leb _ _ (entry_in at_entry_lem),
         eq-eqb _ _ at_count.before.before.if4.false,
         eq-eqb _ _ at_count.if-calls-at-2.false,
-        tested-yes _ _ c.within-2.ensures.test c.if-not-within-2.false,
+        sym c.within-2.ensures.test ∙ c.if-not-within-2.false,
         c.args_match.ensures.test,
       )
       (last-test _);

@@ -1,5 +1,4 @@
 -- The source's roots, then the target's: each return is the law of its refusal. Assumes nothing.
-use borrow.Author.Tests.{not-true, not-false}
 use Rattle.assertions.proofs.Bits.{not-asked, source-19, target-19, one-bit-roots}
 use Rattle.assertions.proofs.root_answer.Goals as goal
 
@@ -10,7 +9,7 @@ pub returns-then-not-strict : goal.returns-then-not-strict
 returns-then-not-strict c = record {
   answer =
       let s = c.args in
-      not-asked s.strict s.ws0.now s.eroots.now s.ws1.now s.troots.now (not-true _ c.if-not-strict.true);
+      not-asked s.strict s.ws0.now s.eroots.now s.ws1.now s.troots.now (c.if-not-strict.true);
 }
 
 pub returns-then-source-eroots : goal.returns-then-source-eroots
@@ -18,7 +17,7 @@ returns-then-source-eroots c = record {
   answer =
       let at_source = c.before in
       let s = (start at_source.before).args in
-      source-19 s.strict s.ws0.now s.eroots.now s.ws1.now s.troots.now (not-false _ at_source.if-not-strict.false) _
+      source-19 s.strict s.ws0.now s.eroots.now s.ws1.now s.troots.now (at_source.if-not-strict.false) _
       at_source.roots_wf-source.ensures.position c.if-source-eroots.true;
 }
 
@@ -28,7 +27,7 @@ returns-then-target-troots c = record {
       let at_Target = c.before in
       let at_source = at_Target.before.before in
       let s = (start at_source.before).args in
-      target-19 s.strict s.ws0.now s.eroots.now s.ws1.now s.troots.now (not-false _ at_source.if-not-strict.false) _
+      target-19 s.strict s.ws0.now s.eroots.now s.ws1.now s.troots.now (at_source.if-not-strict.false) _
       at_source.roots_wf-source.ensures.position at_Target.if-source-eroots.false _ at_Target.roots_wf-target.ensures.position c.if-target-troots.true;
 }
 
@@ -38,6 +37,6 @@ returns c = record {
       let at_Target = c.before in
       let at_source = at_Target.before.before in
       let s = (start at_source.before).args in
-      one-bit-roots s.strict s.ws0.now s.eroots.now s.ws1.now s.troots.now (not-false _ at_source.if-not-strict.false) _
+      one-bit-roots s.strict s.ws0.now s.eroots.now s.ws1.now s.troots.now (at_source.if-not-strict.false) _
       at_source.roots_wf-source.ensures.position at_Target.if-source-eroots.false _ at_Target.roots_wf-target.ensures.position c.if-target-troots.false;
 }

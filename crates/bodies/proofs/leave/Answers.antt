@@ -4,7 +4,6 @@ use mathlib.Core.Bool.{true, false}
 use Prim.Native.Nat.{ℕ, ◌≤◌}
 use native.Mathlib.Omega.{arith}
 use lib.ListN.{length}
-use borrow.Author.Tests.{not-true, not-false}
 use Rattle.contents.specs.Contents.{sections}
 use Rattle.book.proofs.Shape.{first_word}
 use Rattle.bodies.specs.Words.{loaded}
@@ -15,7 +14,7 @@ pub returns-then-not-kept : goal.returns-then-not-kept
 returns-then-not-kept c = record {
   list =
       let t = c.before.before.before.before in
-      let k : t.args.kept ≡ false = not-true _ t.if-not-kept.true in
+      let k : t.args.kept ≡ false = t.if-not-kept.true in
       rw k c.clear.ensures.zeros;
 }
 
@@ -48,6 +47,6 @@ returns c = record {
       let t = o.before.before.before in
       let s = t.before.before.before in
       let b = s.args.book.now in
-      let k : s.args.kept ≡ true = not-false _ t.if-not-kept.false in
+      let k : s.args.kept ≡ true = t.if-not-kept.false in
       rw k (words-cleared (loaded b (sections b)) _ s.args.words.now _ _ s.requires.words_value (counted o) c.clear_from.ensures.zeros);
 }

@@ -3,7 +3,6 @@ use mathlib.Core.Path.{◌≡◌, sym, ◌∙◌}
 use mathlib.Core.Bool.{true, false}
 use Rattle.answers.specs.Answer.{is_accepted}
 use Rattle.book.specs.Book.{section_answer}
-use borrow.Author.Tests.{not-true, not-false}
 use Rattle.book.proofs.Shape.{numbered}
 use Rattle.book.proofs.section.Goals as goal
 
@@ -13,7 +12,7 @@ returns-then-not-is_accepted c = record {
       let a = c.args in
       let e : is_accepted (section_answer a.book.now a.number) ≡ false =
       rw c.section_answer.ensures.answer at (sym c.is_accepted.ensures.test
-      ∙ not-true _ c.if-not-is_accepted.true) in
+      ∙ c.if-not-is_accepted.true) in
       rw e;
 }
 
@@ -21,14 +20,14 @@ pub overflow_sub-number : goal.overflow_sub-number
 overflow_sub-number c =
     let a = c.args in
     (numbered a.book.now a.number (rw c.section_answer.ensures.answer at (sym c.is_accepted.ensures.test
-    ∙ not-false _ c.if-not-is_accepted.false))).low
+    ∙ c.if-not-is_accepted.false))).low
 
 pub body-requires : goal.body-requires
 body-requires c =
     let a = c.args in
     let n =
     numbered a.book.now a.number (rw c.section_answer.ensures.answer at (sym c.is_accepted.ensures.test
-    ∙ not-false _ c.if-not-is_accepted.false)) in
+    ∙ c.if-not-is_accepted.false)) in
     (n.high, n.shape)
 
 pub returns : goal.returns
@@ -37,6 +36,6 @@ returns c = record {
       let a = c.args in
       let e : is_accepted (section_answer a.book.now a.number) ≡ true =
       rw c.section_answer.ensures.answer at (sym c.is_accepted.ensures.test
-      ∙ not-false _ c.if-not-is_accepted.false) in
+      ∙ c.if-not-is_accepted.false) in
       rw e c.body.ensures.stretch;
 }

@@ -1,7 +1,6 @@
 -- An accepted number names a section of a good book, whose entry is read. Assumes nothing.
 use mathlib.Core.Path.{◌≡◌, sym, ◌∙◌}
 use mathlib.Core.Bool.{true, false}
-use borrow.Author.Tests.{not-true, not-false}
 use Rattle.answers.specs.Answer.{is_accepted}
 use Rattle.book.specs.Book.{section_answer}
 use Rattle.book.proofs.Shape.{good_book, numbered}
@@ -12,7 +11,7 @@ returns-then-not-is_accepted c = record {
   place =
       let a = c.args in
       let e : is_accepted (section_answer a.book.now a.number) ≡ false =
-      rw c.section_answer.ensures.answer at (sym c.is_accepted.ensures.test ∙ not-true _ c.if-not-is_accepted.true) in
+      rw c.section_answer.ensures.answer at (sym c.is_accepted.ensures.test ∙ c.if-not-is_accepted.true) in
       rw e;
 }
 
@@ -20,14 +19,14 @@ pub overflow_sub-i : goal.overflow_sub-i
 overflow_sub-i c =
     let a = c.args in
     (numbered a.book.now a.number (rw c.section_answer.ensures.answer at (sym c.is_accepted.ensures.test
-    ∙ not-false _ c.if-not-is_accepted.false))).low
+    ∙ c.if-not-is_accepted.false))).low
 
 pub start_of-requires : goal.start_of-requires
 start_of-requires c =
     let a = c.args in
     let n =
     numbered a.book.now a.number (rw c.section_answer.ensures.answer at (sym c.is_accepted.ensures.test
-    ∙ not-false _ c.if-not-is_accepted.false)) in
+    ∙ c.if-not-is_accepted.false)) in
     (n.high, (good_book a.book.now n.shape).long)
 
 pub length_of-requires : goal.length_of-requires
@@ -35,7 +34,7 @@ length_of-requires c =
     let a = c.args in
     let n =
     numbered a.book.now a.number (rw c.section_answer.ensures.answer at (sym c.is_accepted.ensures.test
-    ∙ not-false _ c.if-not-is_accepted.false)) in
+    ∙ c.if-not-is_accepted.false)) in
     (n.high, (good_book a.book.now n.shape).long)
 
 pub returns : goal.returns
@@ -44,6 +43,6 @@ returns c = record {
       let a = c.args in
       let e : is_accepted (section_answer a.book.now a.number) ≡ true =
       rw c.section_answer.ensures.answer at (sym c.is_accepted.ensures.test
-      ∙ not-false _ c.if-not-is_accepted.false) in
+      ∙ c.if-not-is_accepted.false) in
       rw (e, c.before.start_of_lem.ensures, c.length_of.ensures.value);
 }

@@ -1,5 +1,5 @@
-use Prim.Native.Nat.{◌≤◌, ◌+◌, ◌*◌, ◌-◌}
-use mathlib.Core.Path.{◌≡◌, ◌∙◌, sym, ap}
+use Prim.Native.Nat.{◌+◌, ◌*◌, ◌-◌}
+use mathlib.Core.Path.{◌∙◌, sym, ap}
 use mathlib.Core.Logic.{⊎_elim}
 use native.Mathlib.Nat.{add-zero, sub-zero}
 use native.Mathlib.Omega.{arith}
@@ -27,8 +27,8 @@ overflow_add-at c =
 
 pub pair_step-step-requires : goal.pair_step-step-requires
 pair_step-step-requires c = record {
-  s_in_bounds = let p = c.requires in p.1.0 _ c.if-k-l.false;
-  consts_within = let p = c.requires in (p.1.1, rw c.row-q.ensures.row (p.1.1 _ p.0));
+  s_in_bounds = let p = c.requires in p.pairs_within _ c.if-k-l.false;
+  consts_within = let p = c.requires in (p.consts_within, rw c.row-q.ensures.row (p.consts_within _ p.j_bound));
 }
 
 pub pairs-preserved : goal.pairs-preserved
@@ -43,7 +43,7 @@ pairs-preserved c =
       l.invariant.1 ∙ walk_step _ _ _ _ s.k s.s l.l l.row c.if-k-l.false
           ∙ ap (λ (z : Walk). onward z (w (s.k - (l.l + 1)) (s.s + 2 * (l.l + 1))))
           (sym (rw (at_row.row-q.ensures.row, at-map-at.map_at-b.ensures.row) at c.pair_step-step.ensures.step)
-          ∙ c.step-1.given.1),
+          ∙ c.in-RanOut.is),
     )
 
 pub returns-then-k-l : goal.returns-then-k-l

@@ -1,6 +1,6 @@
 -- The definition's four tests in its order. Assumes nothing.
 use mathlib.Core.Path.{◌∙◌, sym}
-use borrow.Author.Tests.{lt-ltb, le-ltb, eq-eqb, ne_eqb, not-true, not-false}
+use borrow.Author.Tests.{lt-ltb, le-ltb, eq-eqb, ne_eqb}
 use Rattle.lists.specs.Tests.{all}
 use Rattle.lowering.specs.Matching.{is_level}
 use Rattle.chains.proofs.level.Goals as goal
@@ -39,7 +39,7 @@ returns-then-not-is_eq c = record {
             (rw c.row_count.ensures.count at c.if-row_count-r.false),
         eq-eqb _ _ (rw c.row-d.ensures.row at c.if-d-ne-ITE.false),
         eq-eqb _ _ (rw c.row-d.ensures.row at c.if-d-v.false),
-        sym (rw c.row-d.ensures.row at c.is_eq.ensures.test) ∙ not-true _ c.if-not-is_eq.true,
+        sym (rw c.row-d.ensures.row at c.is_eq.ensures.test) ∙ c.if-not-is_eq.true,
       );
 }
 
@@ -52,7 +52,7 @@ returns c = record {
             (rw c.row_count.ensures.count at c.if-row_count-r.false),
         eq-eqb _ _ (rw c.row-d.ensures.row at c.if-d-ne-ITE.false),
         eq-eqb _ _ (rw c.row-d.ensures.row at c.if-d-v.false),
-        sym (rw c.row-d.ensures.row at c.is_eq.ensures.test) ∙ not-false _ c.if-not-is_eq.false,
+        sym (rw c.row-d.ensures.row at c.is_eq.ensures.test) ∙ c.if-not-is_eq.false,
         c.row-d.ensures.row,
       );
 }

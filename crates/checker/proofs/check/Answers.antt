@@ -2,7 +2,6 @@
 use mathlib.Core.Path.{◌≡◌, refl, sym, ◌∙◌}
 use mathlib.Core.Bool.{true}
 use mathlib.Core.List.{[]}
-use borrow.Author.Tests.{not-true, not-false}
 use lib.ListN.{length}
 use lib.Seq.{length-take-le}
 use Rattle.sorts.specs.Sorts.{edition, plain}
@@ -47,10 +46,10 @@ counts-pass : (c : goal.Else-not-is_accepted)
 counts-pass c =
     let L = input (start c.before.before) in
     rw (c.count_answer-a.ensures.answer L.source L.target refl refl) at (sym c.is_accepted.ensures.test
-    ∙ not-false _ c.if-not-is_accepted.false)
+    ∙ c.if-not-is_accepted.false)
 
 forms-accepted : (c : goal.Else-not-is_accepted-2) → is_accepted (graphed c).rooted_graphs-g.result ≡ true
-forms-accepted c = sym c.is_accepted-2.ensures.test ∙ not-false _ c.if-not-is_accepted-2.false
+forms-accepted c = sym c.is_accepted-2.ensures.test ∙ c.if-not-is_accepted-2.false
 
 pub returns-then-not-is_accepted : goal.returns-then-not-is_accepted
 returns-then-not-is_accepted c = record {
@@ -60,7 +59,7 @@ returns-then-not-is_accepted c = record {
       let s = at-start.args in
       let L = input at-start in
       count-done s.strict L s.ws0.now s.ws1.now s.cls.now s.ent.now _
-      (at-count-answer.count_answer-a.ensures.answer L.source L.target refl refl) (sym c.is_accepted.ensures.test ∙ not-true _ c.if-not-is_accepted.true);
+      (at-count-answer.count_answer-a.ensures.answer L.source L.target refl refl) (sym c.is_accepted.ensures.test ∙ c.if-not-is_accepted.true);
 }
 
 pub rooted_graphs-g-requires : goal.rooted_graphs-g-requires
@@ -90,10 +89,10 @@ returns-then-not-is_accepted-2 c = record {
       let c1 = counts-pass (counted at-graphs) in
       let z = at-clear-all.clear_all.ensures in
       let k = at-graphs.rooted_graphs-g in
-      by-lists _ _ _ _ _ _ _ _ _ _ (zeros-long _ (length s.ws0.now) _ z.0 k.auto.1.1.1.1.1.1.1.1.1.1.0)
-      (zeros-long _ (length s.ws1.now) _ z.1.0 k.auto.1.1.1.1.1.1.1.1.1.1.1.0) z.1.1.0 z.1.1.1
-      (graph-done s.strict L s.ws0.now s.ws1.now s.cls.now s.ent.now _ c1 k.ensures.0
-      (sym at-is-accepted2.is_accepted-2.ensures.test ∙ not-true _ at-then2.if-not-is_accepted-2.true));
+      by-lists _ _ _ _ _ _ _ _ _ _ (zeros-long _ (length s.ws0.now) _ z.zeros k.auto.ws0)
+      (zeros-long _ (length s.ws1.now) _ z.zeros_1 k.auto.ws1) z.zeros_2 z.zeros_3
+      (graph-done s.strict L s.ws0.now s.ws1.now s.cls.now s.ent.now _ c1 k.ensures.answer
+      (sym at-is-accepted2.is_accepted-2.ensures.test ∙ at-then2.if-not-is_accepted-2.true));
 }
 
 pub slice_bounds-lowered-end : goal.slice_bounds-lowered-end
@@ -179,12 +178,12 @@ returns-then-not-is_accepted-3 c = record {
       let z = at-clear-all2.clear_all-then-not-is_accepted-3.ensures in
       let k = at-graphs.rooted_graphs-g in
       let l = at-lowered.lowered-m in
-      by-lists _ _ _ _ _ _ _ _ _ _ (zeros-long _ (length s.ws0.now) _ z.0 k.kept.1.1.1.1.1.1.1.1.1.1.0)
-      (zeros-long _ (length s.ws1.now) _ z.1.0 k.kept.1.1.1.1.1.1.1.1.1.1.1.0)
-      (zeros-long _ (length s.cls.now) _ z.1.1.0 l.auto.1.1.1.1.1.1.1.1.1.1.1.1.1.1.0)
-      (zeros-long _ (length s.ent.now) _ z.1.1.1 l.auto.1.1.1.1.1.1.1.1.1.1.1.1.1.1.1.0)
-      (match-done s.strict L s.ws0.now s.ws1.now s.cls.now s.ent.now _ c1 g1 l.ensures.0
-      (sym at-is-accepted3.is_accepted-3.ensures.test ∙ not-true _ at-then3.if-not-is_accepted-3.true));
+      by-lists _ _ _ _ _ _ _ _ _ _ (zeros-long _ (length s.ws0.now) _ z.zeros k.auto.ws0)
+      (zeros-long _ (length s.ws1.now) _ z.zeros_1 k.auto.ws1)
+      (zeros-long _ (length s.cls.now) _ z.zeros_2 l.auto.cls)
+      (zeros-long _ (length s.ent.now) _ z.zeros_3 l.auto.ent)
+      (match-done s.strict L s.ws0.now s.ws1.now s.cls.now s.ent.now _ c1 g1 l.ensures.answer
+      (sym at-is-accepted3.is_accepted-3.ensures.test ∙ at-then3.if-not-is_accepted-3.true));
 }
 
 pub clear_from-requires : goal.clear_from-requires
@@ -229,11 +228,11 @@ returns c = record {
       let g1 = rw at-graphs.rooted_graphs-g.ensures.answer at ok in
       let k = at-graphs.rooted_graphs-g in
       let l = at-lowered.lowered-m in
-      let m = sym at-is-accepted3.is_accepted-3.ensures.test ∙ not-false _ at-else3.if-not-is_accepted-3.false in
+      let m = sym at-is-accepted3.is_accepted-3.ensures.test ∙ at-else3.if-not-is_accepted-3.false in
       by-lists _ _ _ _ _ _ _ _ _ _ (widths-cleared (array_sorts L) Source (length s.ebits.now) _ (length s.ws0.now) s.eside.now
-      s.source.now _ _ _ at-row-count2.row_count.ensures.count (k.ensures.1.0 ok) k.kept.1.1.1.1.1.1.1.1.1.1.0
+      s.source.now _ _ _ at-row-count2.row_count.ensures.count (k.ensures.source_list ok) k.auto.ws0
       at-clear-from.clear_from.ensures.zeros) (widths-cleared plain Target (length s.tbits.now) _ (length s.ws1.now) [] s.target.now _ _ _
-      at-row-count.row_count-n.ensures.count (k.ensures.1.1 ok) k.kept.1.1.1.1.1.1.1.1.1.1.1.0 c.clear_from-2.ensures.zeros)
-      (l.ensures.1.0 m) (l.ensures.1.1 m) (accept-done s.strict L s.ws0.now s.ws1.now s.cls.now s.ent.now _ c1 g1
-      l.ensures.0 m);
+      at-row-count.row_count-n.ensures.count (k.ensures.target_list ok) k.auto.ws1 c.clear_from-2.ensures.zeros)
+      (l.ensures.class_list m) (l.ensures.entry_list m) (accept-done s.strict L s.ws0.now s.ws1.now s.cls.now s.ent.now _ c1 g1
+      l.ensures.answer m);
 }

@@ -3,7 +3,7 @@ use mathlib.Core.Path.{◌≡◌, refl, ◌∙◌, sym}
 use mathlib.Core.Bool.{true}
 use native.Mathlib.Nat.{add-zero}
 use native.Mathlib.Omega.{arith}
-use borrow.Author.Tests.{eq-eqb, ne_eqb, not-true, not-false}
+use borrow.Author.Tests.{eq-eqb, ne_eqb}
 use lib.Dec.{eqb}
 use Rattle.rows.specs.declared.Graph.TheVariants.{Target}
 use Rattle.rows.specs.Row.{row_count}
@@ -53,7 +53,7 @@ returns-then-not-is_eq c = record {
       sym
       (a.loop-l.invariant.1
       ∙ all-last _ _ _ a.loop-l.l a.loop-l.cur else1.loop-l-test.true (inside else1) (is-and else2)
-      (rw else2.row-d.ensures.row at (sym c.is_eq.ensures.test ∙ not-true _ c.if-not-is_eq.true)));
+      (rw else2.row-d.ensures.row at (sym c.is_eq.ensures.test ∙ c.if-not-is_eq.true)));
 }
 
 pub loop-l-preserved : goal.loop-l-preserved
@@ -64,7 +64,7 @@ loop-l-preserved c =
       omega arith,
       a.loop-l.invariant.1
           ∙ all_rest _ _ _ a.loop-l.l a.loop-l.cur else1.loop-l-test.true (inside else1) (is-and else2)
-          (rw else2.row-d.ensures.row at (sym c.is_eq.ensures.test ∙ not-false _ c.if-not-is_eq.false))
+          (rw else2.row-d.ensures.row at (sym c.is_eq.ensures.test ∙ c.if-not-is_eq.false))
           ∙ rw else2.row-d.ensures.row,
     )
 

@@ -1,7 +1,6 @@
 use Prim.Native.Nat.{◌-◌}
 use native.Mathlib.Nat.{sub-zero}
 use native.Mathlib.Omega.{arith}
-use borrow.Author.Tests.{not-true, not-false}
 use Rattle.pairs.proofs.Walk.{table-end, table_on, table-stop}
 use Rattle.congruence.proofs.uf_cong.Goals as goal
 
@@ -10,8 +9,8 @@ loop-k-init c = (omega arith, record { kept = rw sub-zero })
 
 pub uf_cong_for-c-requires : goal.uf_cong_for-c-requires
 uf_cong_for-c-requires c = record {
-  calls_in = let pre = c.requires in pre.0;
-  eqs_even = let pre = c.requires in pre.1;
+  calls_in = let pre = c.requires in pre.calls_in;
+  eqs_even = let pre = c.requires in pre.eqs_even;
   k_bound = let pre = c.requires in rw c.call_count-n.ensures.count at c.loop-k-test.true;
 }
 
@@ -20,7 +19,7 @@ returns-then-not-c c = record {
   walk =
       let at-loop = c.before.before.before.before in
       table-stop at-loop.loop-k.invariant.1 (rw at-loop.call_count-n.ensures.count at c.loop-k-test.true) _
-      c.uf_cong_for-c.ensures.walk (not-true _ c.if-not-c.true);
+      c.uf_cong_for-c.ensures.walk (c.if-not-c.true);
 }
 
 pub loop-k-preserved : goal.loop-k-preserved
@@ -28,7 +27,7 @@ loop-k-preserved c =
     let at-loop = c.before.before.before.before in (
       omega arith,
       table_on at-loop.loop-k.invariant.1 (rw at-loop.call_count-n.ensures.count at c.loop-k-test.true) _
-          c.uf_cong_for-c.ensures.walk (not-false _ c.if-not-c.false),
+          c.uf_cong_for-c.ensures.walk (c.if-not-c.false),
     )
 
 pub returns : goal.returns

@@ -28,11 +28,11 @@ returns-in_default c = record {
   count =
       rw (
         lt-ltb _ _ c.if-t-ge-SELECT.false,
-        ne_eqb _ _ c.in_default.in_default-own.0.0.0.0.0.1,
-        ne_eqb _ _ c.in_default.in_default-own.0.0.0.0.1,
-        ne_eqb _ _ c.in_default.in_default-own.0.0.0.1,
-        ne_eqb _ _ c.in_default.in_default-own.0.0.1,
-        ne_eqb _ _ c.in_default.in_default-own.0.1,
-        ne_eqb _ _ c.in_default.in_default-own.1,
+        ne_eqb _ _ c.in_default.in_default-own.rest.0.0.0.0.0.1,
+        ne_eqb _ _ c.in_default.in_default-own.rest.0.0.0.0.1,
+        ne_eqb _ _ c.in_default.in_default-own.rest.0.0.0.1,
+        ne_eqb _ _ c.in_default.in_default-own.rest.0.0.1,
+        ne_eqb _ _ c.in_default.in_default-own.rest.0.1,
+        ne_eqb _ _ c.in_default.in_default-own.rest.1,
       );
 }

@@ -1,12 +1,12 @@
 -- The definition's five tests in its order; the entry is read only after the test that it lies in the table. Assumes nothing.
 use Prim.Native.Nat.{◌+◌, ◌≤◌}
-use mathlib.Core.Path.{◌≡◌}
+use mathlib.Core.Path.{◌≡◌, sym, ◌∙◌}
 use mathlib.Core.Bool.{true}
 use native.Mathlib.Omega.{arith}
 use borrow.Author.Tests.{lt-ltb, le-ltb, le-leb, eq-eqb, ne_eqb}
 use lib.Dec.{ltb}
 use lib.ListN.{length, get_or}
-use Rattle.lists.proofs.Choice.{last-test, tested-no, tested-yes}
+use Rattle.lists.proofs.Choice.{last-test}
 use Rattle.lists.proofs.Tests.{within-le}
 use Rattle.lists.specs.Tests.{all}
 use Rattle.rows.specs.declared.Graph.TheVariants.{Target}
@@ -30,7 +30,7 @@ row_in : (c : goal.Else-row_count-r) → (let s = (start c).args in ltb s.r (row
 row_in c = lt-ltb _ _ (rw c.row_count.ensures.count at c.if-row_count-r.false)
 
 class-read : (c : goal.Else-not-read_class) → (let s = (start (row-tested c)).args in either (get_or s.cls.now s.r 0) 2 4 ≡ true)
-class-read c = tested-yes _ _ c.read_class.ensures.test c.if-not-read_class.false
+class-read c = sym c.read_class.ensures.test ∙ c.if-not-read_class.false
 
 entry_in : (c : goal.Else-not-within) → (let s = (start (row-tested (class-tested c))).args in get_or s.ent.now s.r 0 + 3 ≤ length s.reads.now)
 entry_in c =
@@ -43,14 +43,14 @@ returns-then-row_count-r c = record { test = rw (le-ltb _ _ (rw c.row_count.ensu
 
 pub returns-then-not-read_class : goal.returns-then-not-read_class
 unfolding end_good all
-returns-then-not-read_class c = record { test = rw (row_in c.before.before.before, tested-no _ _ c.read_class.ensures.test c.if-not-read_class.true) }
+returns-then-not-read_class c = record { test = rw (row_in c.before.before.before, sym c.read_class.ensures.test ∙ c.if-not-read_class.true) }
 
 pub returns-then-not-within : goal.returns-then-not-within
 unfolding end_good all
 returns-then-not-within c = record {
   test =
       let at-class = c.before.before.before in
-      rw (row_in (row-tested at-class), class-read at-class, tested-no _ _ c.within.ensures.test c.if-not-within.true);
+      rw (row_in (row-tested at-class), class-read at-class, sym c.within.ensures.test ∙ c.if-not-within.true);
 }
 
 pub overflow_add-at : goal.overflow_add-at

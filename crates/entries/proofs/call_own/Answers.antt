@@ -2,25 +2,25 @@
 use mathlib.Core.Path.{◌∙◌, sym, ap}
 use mathlib.Core.Bool.{not}
 use borrow.Author.Count.{below_more}
-use borrow.Author.Tests.{leb-true, not-true, not-false}
+use borrow.Author.Tests.{leb-true}
 use Rattle.lists.proofs.Tests.{all_true}
 use Rattle.keys.proofs.Order.{fails, passes, two, alone, not-not}
 use Rattle.entries.proofs.call_own.Goals as goal
 
 pub returns-then-not-args_in_range : goal.returns-then-not-args_in_range
-returns-then-not-args_in_range c = record { test = fails _ (sym c.args_in_range.ensures.test ∙ not-true _ c.if-not-args_in_range.true) ∙ two _ _ _ }
+returns-then-not-args_in_range c = record { test = fails _ (sym c.args_in_range.ensures.test ∙ c.if-not-args_in_range.true) ∙ two _ _ _ }
 
 pub call_dup-requires : goal.call_dup-requires
 call_dup-requires c = record {
   k_in_bounds = let p = c.requires in
-      let (a, _) = all_true _ (sym c.args_in_range.ensures.test ∙ not-false _ c.if-not-args_in_range.false) in p.0;
+      let (a, _) = all_true _ (sym c.args_in_range.ensures.test ∙ c.if-not-args_in_range.false) in p.k_in_bounds;
   args_inside = let p = c.requires in
-      let (a, _) = all_true _ (sym c.args_in_range.ensures.test ∙ not-false _ c.if-not-args_in_range.false) in below_more _ _ p.1 (leb-true _ _ a);
+      let (a, _) = all_true _ (sym c.args_in_range.ensures.test ∙ c.if-not-args_in_range.false) in below_more _ _ p.args_inside (leb-true _ _ a);
 }
 
 pub returns : goal.returns
 returns c = record {
   test =
       ap not c.call_dup.ensures.test ∙ not-not _ ∙ alone _
-      ∙ passes _ (sym c.args_in_range.ensures.test ∙ not-false _ c.if-not-args_in_range.false) ∙ two _ _ _;
+      ∙ passes _ (sym c.args_in_range.ensures.test ∙ c.if-not-args_in_range.false) ∙ two _ _ _;
 }

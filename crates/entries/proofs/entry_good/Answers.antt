@@ -2,7 +2,6 @@
 use Prim.Native.Nat.{◌+◌, ◌*◌, ◌≤◌}
 use mathlib.Core.Path.{◌∙◌, sym}
 use native.Mathlib.Omega.{arith}
-use borrow.Author.Tests.{not-true, not-false}
 use lib.ListN.{length}
 use Rattle.entries.specs.Entries.{stride}
 use Rattle.entries.proofs.Entry.{good-cut, whole-at, good-taken, good-own}
@@ -38,7 +37,7 @@ returns-then-not-free_var c = record {
       let q = c.before.before.before in
       let p = q.before.before.before.before.before.before.before in
       good-taken p.args.which p.args.second _ _ _ _ _ _ p.args.w p.args.off p.requires.w_value.0 p.requires.w_value.1 (omega arith)
-      (rw q.sort_in-sort.ensures.sort.1 at (sym c.free_var.ensures.test ∙ not-true _ c.if-not-free_var.true));
+      (rw q.sort_in-sort.ensures.sort.1 at (sym c.free_var.ensures.test ∙ c.if-not-free_var.true));
 }
 
 pub own_good-requires : goal.own_good-requires
@@ -57,5 +56,5 @@ returns c = record {
       rw q.sort_in-sort.ensures.sort.0 at c.own_good.ensures.test
       ∙ rw p.requires.cls_len
       (good-own p.args.which p.args.second _ _ _ _ _ _ p.args.w p.args.off p.requires.w_value.0 p.requires.w_value.1 (omega arith)
-      (rw q.sort_in-sort.ensures.sort.1 at (sym c.free_var.ensures.test ∙ not-false _ c.if-not-free_var.false)));
+      (rw q.sort_in-sort.ensures.sort.1 at (sym c.free_var.ensures.test ∙ c.if-not-free_var.false)));
 }

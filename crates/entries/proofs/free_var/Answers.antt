@@ -1,6 +1,6 @@
 -- The row, its test, its class: the definition's order. Assumes nothing.
 use mathlib.Core.Path.{◌∙◌, sym}
-use borrow.Author.Tests.{lt-ltb, le-ltb, not-true, not-false}
+use borrow.Author.Tests.{lt-ltb, le-ltb}
 use Rattle.keys.proofs.Order.{fails, passes, alone}
 use Rattle.entries.proofs.free_var.Goals as goal
 
@@ -10,7 +10,7 @@ returns-then-cls-v c = record { test = fails _ (le-ltb _ _ (rw c.requires at c.i
 pub returns-then-not-is_var : goal.returns-then-not-is_var
 returns-then-not-is_var c = record {
   test =
-      fails _ (rw c.row.ensures.row at (sym c.is_var.ensures.test ∙ not-true _ c.if-not-is_var.true))
+      fails _ (rw c.row.ensures.row at (sym c.is_var.ensures.test ∙ c.if-not-is_var.true))
       ∙ passes _ (lt-ltb _ _ (rw c.requires at c.if-cls-v.false));
 }
 
@@ -18,6 +18,6 @@ pub returns : goal.returns
 returns c = record {
   test =
       alone _
-      ∙ passes _ (rw c.row.ensures.row at (sym c.is_var.ensures.test ∙ not-false _ c.if-not-is_var.false))
+      ∙ passes _ (rw c.row.ensures.row at (sym c.is_var.ensures.test ∙ c.if-not-is_var.false))
       ∙ passes _ (lt-ltb _ _ (rw c.requires at c.if-cls-v.false));
 }

@@ -2,13 +2,13 @@
 use Rattle.entries.proofs.own_good.Goals as goal
 
 pub read_own-requires : goal.read_own-requires
-read_own-requires c = rw c.enum_told-1.given.1 at c.requires.which_in_bounds
+read_own-requires c = rw c.in-Reads.is at c.requires.which_in_bounds
 
 pub call_own-requires : goal.call_own-requires
-call_own-requires c = rw c.enum_told-in-Calls-1.given.1 at c.requires
+call_own-requires c = rw c.in-Calls.is at c.requires
 
 pub returns-in-Reads : goal.returns-in-Reads
-returns-in-Reads c = record { test = rw c.enum_told-1.given.1 c.read_own.ensures.test }
+returns-in-Reads c = record { test = rw c.in-Reads.is c.read_own.ensures.test }
 
 pub returns-in-Calls : goal.returns-in-Calls
-returns-in-Calls c = record { test = rw c.enum_told-in-Calls-1.given.1 c.call_own.ensures.test }
+returns-in-Calls c = record { test = rw c.in-Calls.is c.call_own.ensures.test }

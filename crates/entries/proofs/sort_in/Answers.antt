@@ -8,7 +8,7 @@ use Rattle.entries.proofs.sort_in.Goals as goal
 -- a read entry is whole
 read_whole : (c : goal.In-Reads)
     → c.args.k * 3 + 3 ≤ length c.args.table.now
-read_whole c = rw c.enum_told-1.given.1 at c.requires.which_in_bounds
+read_whole c = rw c.in-Reads.is at c.requires.which_in_bounds
 
 pub overflow_mul-k : goal.overflow_mul-k
 overflow_mul-k c = let h = read_whole c in search rules
@@ -23,10 +23,10 @@ pub bounds-table-k : goal.bounds-table-k
 bounds-table-k c = let h = read_whole c.before in search rules
 
 pub sort_of-requires : goal.sort_of-requires
-sort_of-requires c = rw c.enum_told-1.given.1 at c.requires.sorted
+sort_of-requires c = rw c.in-Reads.is at c.requires.sorted
 
 pub returns-in-Reads : goal.returns-in-Reads
-returns-in-Reads c = record { sort = rw c.enum_told-1.given.1 c.sort_of.ensures.sort }
+returns-in-Reads c = record { sort = rw c.in-Reads.is c.sort_of.ensures.sort }
 
 pub returns-in-Calls : goal.returns-in-Calls
-returns-in-Calls c = record { sort = rw c.enum_told-in-Calls-1.given.1 (refl, refl) }
+returns-in-Calls c = record { sort = rw c.in-Calls.is (refl, refl) }

@@ -4,7 +4,6 @@ use mathlib.Core.Path.{◌≡◌, sym, ◌∙◌}
 use mathlib.Core.Bool.{true}
 use mathlib.Core.List.{[]}
 use native.Mathlib.Omega.{arith}
-use borrow.Author.Tests.{not-true, not-false}
 use lib.ListN.{length}
 use Rattle.answers.specs.Answer.{is_accepted}
 use Rattle.rows.specs.declared.Graph.TheVariants.{Source, Target}
@@ -97,11 +96,11 @@ returns-then-not-is_accepted c = record {
       let rows = bitted (coded bits) in
       let s = start (rowed rows) in
       sym (unsorted s.args.sort (source s) (target s) _ _ (rows-0 (rowed rows)) (rows-1 rows) (bits-0 (coded bits)) (bits-1 bits)
-      (sym c.is_accepted.ensures.test ∙ not-true _ c.if-not-is_accepted.true));
+      (sym c.is_accepted.ensures.test ∙ c.if-not-is_accepted.true));
 }
 
 sorted : (c : goal.Else-not-is_accepted) → is_accepted (start (rowed (bitted (coded (tabled c))))).args.sort ≡ true
-sorted c = sym c.is_accepted.ensures.test ∙ not-false _ c.if-not-is_accepted.false
+sorted c = sym c.is_accepted.ensures.test ∙ c.if-not-is_accepted.false
 
 pub returns-then-stop0-row0 : goal.returns-then-stop0-row0
 returns-then-stop0-row0 c = record {

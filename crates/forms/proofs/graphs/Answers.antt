@@ -5,7 +5,6 @@ use mathlib.Core.Path.{◌≡◌, sym, ap, ◌∙◌}
 use mathlib.Core.Bool.{true, false}
 use mathlib.Core.List.{[]}
 use native.Mathlib.Omega.{arith}
-use borrow.Author.Tests.{not-true, not-false}
 use lib.ListN.{length}
 use Rattle.answers.specs.declared.Answer.{Answer}
 use Rattle.answers.specs.Answer.{is_accepted}
@@ -43,10 +42,10 @@ graph_answer-requires c = record {
 
 -- the table is refused, and nothing is accepted; the table is good
 no : (c : goal.Then-not-is_accepted) → is_accepted (sort_answer (of c.before.before)) ≡ false
-no c = sym (rw c.sort_answer-sort.ensures.answer at c.is_accepted.ensures.test) ∙ not-true _ c.if-not-is_accepted.true
+no c = sym (rw c.sort_answer-sort.ensures.answer at c.is_accepted.ensures.test) ∙ c.if-not-is_accepted.true
 
 yes : (c : goal.Else-not-is_accepted) → is_accepted (sort_answer (of c.before.before)) ≡ true
-yes c = sym (rw c.sort_answer-sort.ensures.answer at c.is_accepted.ensures.test) ∙ not-false _ c.if-not-is_accepted.false
+yes c = sym (rw c.sort_answer-sort.ensures.answer at c.is_accepted.ensures.test) ∙ c.if-not-is_accepted.false
 
 unsorted : {P : Type 0} (sort : Answer) (S : SourceGraph) (T : TargetGraph) (x y : ℕ) → is_accepted sort ≡ false
     → is_accepted (first_refusal (graph_answers sort S T x y)) ≡ true → P
@@ -123,24 +122,24 @@ returns-then-stop0-row_count c = record {
       let T = target table in
       let sort = sort_answer (of table) in
       let x = pass.graph_wf-stop0.ensures in
-      let n = rw (x.0, c.row_count.ensures.count) at c.if-stop0-row_count.true in
-      let a = rw x.0 at (told table _ _ 0 c.graph_answer-then-stop0-row_count.ensures.answer) in a ∙ source-settles sort S T _ 0 (stop_row plain Target (length T.bits) [] T.rows) n ∙ graphs-stop (of table) S T;
+      let n = rw (x.row, c.row_count.ensures.count) at c.if-stop0-row_count.true in
+      let a = rw x.row at (told table _ _ 0 c.graph_answer-then-stop0-row_count.ensures.answer) in a ∙ source-settles sort S T _ 0 (stop_row plain Target (length T.bits) [] T.rows) n ∙ graphs-stop (of table) S T;
   source_list = let pass = c.before.before.before.before.before in
       let table = pass.before.before.before.before in
       let S = source table in
       let T = target table in
       let sort = sort_answer (of table) in
       let x = pass.graph_wf-stop0.ensures in
-      let n = rw (x.0, c.row_count.ensures.count) at c.if-stop0-row_count.true in
-      let a = rw x.0 at (told table _ _ 0 c.graph_answer-then-stop0-row_count.ensures.answer) in λ h. stopped sort S T _ 0 n (rw a at h);
+      let n = rw (x.row, c.row_count.ensures.count) at c.if-stop0-row_count.true in
+      let a = rw x.row at (told table _ _ 0 c.graph_answer-then-stop0-row_count.ensures.answer) in λ h. stopped sort S T _ 0 n (rw a at h);
   target_list = let pass = c.before.before.before.before.before in
       let table = pass.before.before.before.before in
       let S = source table in
       let T = target table in
       let sort = sort_answer (of table) in
       let x = pass.graph_wf-stop0.ensures in
-      let n = rw (x.0, c.row_count.ensures.count) at c.if-stop0-row_count.true in
-      let a = rw x.0 at (told table _ _ 0 c.graph_answer-then-stop0-row_count.ensures.answer) in λ h. stopped sort S T _ 0 n (rw a at h);
+      let n = rw (x.row, c.row_count.ensures.count) at c.if-stop0-row_count.true in
+      let a = rw x.row at (told table _ _ 0 c.graph_answer-then-stop0-row_count.ensures.answer) in λ h. stopped sort S T _ 0 n (rw a at h);
 }
 
 pub graph_answer-requires-2 : goal.graph_answer-requires-2
@@ -188,7 +187,7 @@ returns c = record {
       let T = target table in
       let x = pass.graph_wf-stop0.ensures in
       let y = c.graph_wf-stop1.ensures in
-      let a = rw (x.0, y.0) at (told table _ _ _ c.graph_answer-then-stop0-row_count.ensures.answer) in a ∙ graphs-stop (of table) S T;
+      let a = rw (x.row, y.row) at (told table _ _ _ c.graph_answer-then-stop0-row_count.ensures.answer) in a ∙ graphs-stop (of table) S T;
   source_list = let pass = c.before.before.before.before.before.before.before.before.before.before in
       let table = pass.before.before.before.before in
       let s = (entry table).args in
@@ -196,7 +195,7 @@ returns c = record {
       let T = target table in
       let x = pass.graph_wf-stop0.ensures in
       let y = c.graph_wf-stop1.ensures in
-      let a = rw (x.0, y.0) at (told table _ _ _ c.graph_answer-then-stop0-row_count.ensures.answer) in λ h. x.1 ∙ rw x.0 (widths-all (sorts_of (of table)) Source (length S.bits) S.side S.rows _
+      let a = rw (x.row, y.row) at (told table _ _ _ c.graph_answer-then-stop0-row_count.ensures.answer) in λ h. x.list ∙ rw x.row (widths-all (sorts_of (of table)) Source (length S.bits) S.side S.rows _
       (no-stop-source (sort_answer (of table)) S T _ _ (rw a at h)));
   target_list = let pass = c.before.before.before.before.before.before.before.before.before.before in
       let table = pass.before.before.before.before in
@@ -205,6 +204,6 @@ returns c = record {
       let T = target table in
       let x = pass.graph_wf-stop0.ensures in
       let y = c.graph_wf-stop1.ensures in
-      let a = rw (x.0, y.0) at (told table _ _ _ c.graph_answer-then-stop0-row_count.ensures.answer) in λ h. y.1 ∙ rw y.0 (widths-all plain Target (length T.bits) [] T.rows _
+      let a = rw (x.row, y.row) at (told table _ _ _ c.graph_answer-then-stop0-row_count.ensures.answer) in λ h. y.list ∙ rw y.row (widths-all plain Target (length T.bits) [] T.rows _
       (no-stop-target (sort_answer (of table)) S T _ _ (rw a at h)));
 }

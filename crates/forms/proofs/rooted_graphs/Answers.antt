@@ -2,7 +2,6 @@
 use mathlib.Core.Path.{◌≡◌, sym, ◌∙◌}
 use mathlib.Core.Bool.{true}
 use mathlib.Core.List.{[]}
-use borrow.Author.Tests.{not-true, not-false}
 use lib.ListN.{length}
 use lib.Seq.{length-take-le}
 use Rattle.answers.specs.Answer.{is_accepted}
@@ -31,9 +30,9 @@ returns-then-not-is_accepted c =
     let at-start = start at-graphs in
     let s = at-start.args in
     let g = at-graphs.graphs-g.ensures in (
-      graphs-refused s.strict (of at-start) (source at-start) (target at-start) s.eroots.now s.troots.now _ g.0
-          (sym c.is_accepted.ensures.test ∙ not-true _ c.if-not-is_accepted.true),
-      g.1,
+      graphs-refused s.strict (of at-start) (source at-start) (target at-start) s.eroots.now s.troots.now _ g.answer
+          (sym c.is_accepted.ensures.test ∙ c.if-not-is_accepted.true),
+      gUNKNOWN.1,
     )
 
 pub slice_bounds-root_answer-end-2 : goal.slice_bounds-root_answer-end-2
@@ -50,12 +49,12 @@ returns c = record {
       let at-start = start at-graphs in
       let s = at-start.args in
       let g = at-graphs.graphs-g.ensures in
-      let ok : is_accepted at-graphs.graphs-g.result ≡ true = sym at-else.is_accepted.ensures.test ∙ not-false _ at-else.if-not-is_accepted.false in
+      let ok : is_accepted at-graphs.graphs-g.result ≡ true = sym at-else.is_accepted.ensures.test ∙ at-else.if-not-is_accepted.false in
       let ws0 =
       widths-front (sorts_of (of at-start)) Source (length s.ebits.now) _ s.eside.now s.source.now _ _ at_source.row_count-n.ensures.count
-      (g.1.0 ok) in
+      (g.source_list ok) in
       let ws1 =
-      widths-front plain Target (length s.tbits.now) _ [] s.target.now _ _ c.row_count-m.ensures.count (g.1.1 ok) in roots-asked s.strict (of at-start) (source at-start) (target at-start) s.eroots.now s.troots.now _ g.0 ok _ _ _
+      widths-front plain Target (length s.tbits.now) _ [] s.target.now _ _ c.row_count-m.ensures.count (g.target_list ok) in roots-asked s.strict (of at-start) (source at-start) (target at-start) s.eroots.now s.troots.now _ g.answer ok _ _ _
       c.root_answer.ensures.answer ws0 ws1;
   source_list = let at_source = c.before.before.before.before in
       let at-else = at_source.before in
@@ -63,22 +62,22 @@ returns c = record {
       let at-start = start at-graphs in
       let s = at-start.args in
       let g = at-graphs.graphs-g.ensures in
-      let ok : is_accepted at-graphs.graphs-g.result ≡ true = sym at-else.is_accepted.ensures.test ∙ not-false _ at-else.if-not-is_accepted.false in
+      let ok : is_accepted at-graphs.graphs-g.result ≡ true = sym at-else.is_accepted.ensures.test ∙ at-else.if-not-is_accepted.false in
       let ws0 =
       widths-front (sorts_of (of at-start)) Source (length s.ebits.now) _ s.eside.now s.source.now _ _ at_source.row_count-n.ensures.count
-      (g.1.0 ok) in
+      (g.source_list ok) in
       let ws1 =
-      widths-front plain Target (length s.tbits.now) _ [] s.target.now _ _ c.row_count-m.ensures.count (g.1.1 ok) in λ h. g.1.0 ok;
+      widths-front plain Target (length s.tbits.now) _ [] s.target.now _ _ c.row_count-m.ensures.count (g.target_list ok) in λ h. g.source_list ok;
   target_list = let at_source = c.before.before.before.before in
       let at-else = at_source.before in
       let at-graphs = at-else.before.before.before.before.before.before in
       let at-start = start at-graphs in
       let s = at-start.args in
       let g = at-graphs.graphs-g.ensures in
-      let ok : is_accepted at-graphs.graphs-g.result ≡ true = sym at-else.is_accepted.ensures.test ∙ not-false _ at-else.if-not-is_accepted.false in
+      let ok : is_accepted at-graphs.graphs-g.result ≡ true = sym at-else.is_accepted.ensures.test ∙ at-else.if-not-is_accepted.false in
       let ws0 =
       widths-front (sorts_of (of at-start)) Source (length s.ebits.now) _ s.eside.now s.source.now _ _ at_source.row_count-n.ensures.count
-      (g.1.0 ok) in
+      (g.source_list ok) in
       let ws1 =
-      widths-front plain Target (length s.tbits.now) _ [] s.target.now _ _ c.row_count-m.ensures.count (g.1.1 ok) in λ h. g.1.1 ok;
+      widths-front plain Target (length s.tbits.now) _ [] s.target.now _ _ c.row_count-m.ensures.count (g.target_list ok) in λ h. g.target_list ok;
 }

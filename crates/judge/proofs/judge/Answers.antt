@@ -10,7 +10,6 @@ use Rattle.answers.specs.Result.{Result}
 use Rattle.lowering.specs.Check.{check_answer_by}
 use Rattle.loaded.specs.Held.{held}
 use Rattle.book.specs.Good.{Good}
-use borrow.Author.Tests.{not-true, not-false}
 use Rattle.judge.proofs.Outcome.{room, shape-done, room-done, check_done, words-fit, words_left, by-lists}
 use Rattle.judge.proofs.judge.Goals as goal
 
@@ -29,7 +28,7 @@ abbrev entry : goal.Else-not-is_accepted → goal.Start
 entry c = start c.before.before
 
 good : (c : goal.Else-not-is_accepted) → Good (entry c).args.book.now
-good c = rw c.book_answer-shape.ensures.answer at (sym c.is_accepted.ensures.test ∙ not-false _ c.if-not-is_accepted.false)
+good c = rw c.book_answer-shape.ensures.answer at (sym c.is_accepted.ensures.test ∙ c.if-not-is_accepted.false)
 
 abbrev shaped : goal.Else-not-is_accepted-2 → goal.Else-not-is_accepted
 shaped c = c.before.before.before
@@ -38,7 +37,7 @@ abbrev room_of : goal.Start → Answer
 room_of c = let s = c.args in room s.strict s.book.now s.ws0.now s.ws1.now s.cls.now s.ent.now s.words.now
 
 roomy : (c : goal.Else-not-is_accepted-2) → is_accepted (room_of (entry (shaped c))) ≡ true
-roomy c = rw c.room_answer-room.ensures.answer at (sym c.is_accepted-2.ensures.test ∙ not-false _ c.if-not-is_accepted-2.false)
+roomy c = rw c.room_answer-room.ensures.answer at (sym c.is_accepted-2.ensures.test ∙ c.if-not-is_accepted-2.false)
 
 pub returns-then-not-is_accepted : goal.returns-then-not-is_accepted
 returns-then-not-is_accepted c = record {
@@ -48,9 +47,9 @@ returns-then-not-is_accepted c = record {
       let t = four.before.before.before.before.before in
       let s = (start t.before.before).args in
       let z = four.clear_all.ensures in
-      by-lists _ _ _ _ _ _ _ _ _ _ _ _ z.0 z.1.0 z.1.1.0 z.1.1.1 last.clear.ensures.zeros
+      by-lists _ _ _ _ _ _ _ _ _ _ _ _ z.zeros z.zeros_1 z.zeros_2 z.zeros_3 last.clear.ensures.zeros
       (shape-done s.strict s.book.now s.ws0.now s.ws1.now s.cls.now s.ent.now s.words.now _
-      t.before.before.book-answer.ensures (sym t.is_accepted.ensures.test ∙ not-true _ t.if-not-is_accepted.true));
+      t.before.before.book-answer.ensures (sym t.is_accepted.ensures.test ∙ t.if-not-is_accepted.true));
 }
 
 pub room_answer-room-requires : goal.room_answer-room-requires
@@ -62,7 +61,7 @@ returns-then-not-is_accepted-2 c = record {
       let e = c.before.before.before in
       let s = (entry e).args in
       room-done s.strict s.book.now s.ws0.now s.ws1.now s.cls.now s.ent.now s.words.now _ (good e)
-      c.room_answer-room.ensures.answer (sym c.is_accepted-2.ensures.test ∙ not-true _ c.if-not-is_accepted-2.true);
+      c.room_answer-room.ensures.answer (sym c.is_accepted-2.ensures.test ∙ c.if-not-is_accepted-2.true);
 }
 
 pub load-requires : goal.load-requires

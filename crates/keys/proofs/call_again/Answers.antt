@@ -1,20 +1,19 @@
 -- The rows, then the function, which an entry shares with itself. Assumes nothing.
 use mathlib.Core.Path.{◌≡◌, ◌∙◌, sym}
 use mathlib.Core.Bool.{true}
-use borrow.Author.Tests.{not-true, not-false}
 use Rattle.keys.specs.Keys.{call_is, functions_agree}
 use Rattle.keys.proofs.Order.{fails, passes, alone}
 use Rattle.keys.proofs.Keys.{function-self}
 use Rattle.keys.proofs.call_again.Goals as goal
 
 pub returns-then-not-call_is : goal.returns-then-not-call_is
-returns-then-not-call_is c = record { test = fails _ (sym c.call_is.ensures.test ∙ not-true _ c.if-not-call_is.true) }
+returns-then-not-call_is c = record { test = fails _ (sym c.call_is.ensures.test ∙ c.if-not-call_is.true) }
 
 -- the rows agree
 rows : (c : goal.Else-not-call_is)
     → let s = c.args in
     call_is s.calls.now s.cargs.now s.ws.now s.off s.f s.s s.n s.w ≡ true
-rows c = sym c.call_is.ensures.test ∙ not-false _ c.if-not-call_is.false
+rows c = sym c.call_is.ensures.test ∙ c.if-not-call_is.false
 
 pub returns-then-off-q : goal.returns-then-off-q
 returns-then-off-q c = record {

@@ -1,7 +1,7 @@
 -- Number, count and result_of, then the arguments' widths: the definition's order. Assumes nothing.
 use Prim.Native.Nat.{◌+◌}
 use mathlib.Core.Path.{◌≡◌, ◌∙◌, sym}
-use borrow.Author.Tests.{eqb-true, not-true, not-false}
+use borrow.Author.Tests.{eqb-true}
 use lib.ListN.{get_or}
 use Rattle.lists.proofs.Tests.{all_true}
 use Rattle.keys.specs.Keys.{function_is}
@@ -17,19 +17,19 @@ alike : (c : goal.After-function_is)
 alike c = c.function_is.ensures.test ∙ rw c.width_at-w.ensures.width
 
 pub returns-then-not-function_is : goal.returns-then-not-function_is
-returns-then-not-function_is c = record { test = fails _ (sym (alike c.before) ∙ not-true _ c.if-not-function_is.true) }
+returns-then-not-function_is c = record { test = fails _ (sym (alike c.before) ∙ c.if-not-function_is.true) }
 
 pub arg_widths_eq-requires : goal.arg_widths_eq-requires
 arg_widths_eq-requires c =
     let told = c.before.before in
     let start = told.before.before.before.before.before.before.before.before.before in
     let s = start.args in
-    let (_, (e, _)) = all_true _ (sym (alike told.before) ∙ not-false _ told.if-not-function_is.false) in
+    let (_, (e, _)) = all_true _ (sym (alike told.before) ∙ told.if-not-function_is.false) in
     (rw (eqb-true (get_or s.calls.now (s.p + 3) 0) (get_or s.calls.now (s.q + 3) 0) e) at start.requires.args_at.0, start.requires.args_at.1)
 
 pub returns : goal.returns
 returns c = record {
   test =
       let told = c.before.before.before in
-      c.arg_widths_eq.ensures.test ∙ alone _ ∙ passes _ (sym (alike told.before) ∙ not-false _ told.if-not-function_is.false);
+      c.arg_widths_eq.ensures.test ∙ alone _ ∙ passes _ (sym (alike told.before) ∙ told.if-not-function_is.false);
 }

@@ -1,7 +1,7 @@
 -- Each test in its turn; where one fails the answer is MAX. Assumes nothing.
 use mathlib.Core.Path.{◌≡◌, ◌∙◌, sym}
 use mathlib.Core.Bool.{true}
-use borrow.Author.Tests.{lt-ltb, le-ltb, eq-eqb, ne_eqb, not-true, not-false}
+use borrow.Author.Tests.{lt-ltb, le-ltb, eq-eqb, ne_eqb}
 use lib.Dec.{eqb, ltb}
 use Rattle.lists.specs.Tests.{all}
 use Rattle.rows.specs.declared.Graph.TheVariants.{Target}
@@ -23,7 +23,7 @@ is-or c = eq-eqb _ _ (rw c.row-d.ensures.row at c.if-d-ne-BOOL_OR.false)
 
 equates : (c : goal.Else-not-is_eq)
     → let s = (start c.before.before.before.before).args in is_eq s.target.now s.vp s.vq (field_at s.target.now s.root 2) ≡ true
-equates c = rw c.row-d.ensures.row at (sym c.is_eq.ensures.test ∙ not-false _ c.if-not-is_eq.false)
+equates c = rw c.row-d.ensures.row at (sym c.is_eq.ensures.test ∙ c.if-not-is_eq.false)
 
 under : (c : goal.Else-n-d)
     → let s = (start c.before.before.before.before.before).args in
@@ -48,7 +48,7 @@ returns-then-not-is_eq c = record {
       rw (
         in-range else2.before.before,
         is-or else2,
-        rw else2.row-d.ensures.row at (sym c.is_eq.ensures.test ∙ not-true _ c.if-not-is_eq.true),
+        rw else2.row-d.ensures.row at (sym c.is_eq.ensures.test ∙ c.if-not-is_eq.true),
       );
 }
 

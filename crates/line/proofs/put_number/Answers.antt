@@ -12,10 +12,10 @@ returns c = record {
   end = let p = c.put-end in
       let q = c.spell-start in
       let a = c.args in
-      let h : p.result < length p.new.1.0 = omega arith in omega arith;
+      let h : p.result < length p.new.out = omega arith in omega arith;
   front = let p = c.put-end in
       let q = c.spell-start in
       let a = c.args in
-      let h : p.result < length p.new.1.0 = omega arith in number_put _ a.out.now _ _ p.result a.at a.last h p.ensures.1
-      (take_all (20 - q.result) _ (simp length-drop (omega (arith, q.auto))) ∙ q.ensures.1);
+      let h : p.result < length p.new.out = omega arith in number_put _ a.out.now _ _ p.result a.at a.last h p.ensures.front
+      (take_all (20 - q.result) _ (simp length-drop (omega (arith, q.auto))) ∙ q.ensures.digits);
 }

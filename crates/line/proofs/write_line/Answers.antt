@@ -22,5 +22,5 @@ returns c = record {
       let d = c.put_number-at in
       let t = c.before.before.before.before.before.before.before.before.before in
       let p = c.put-at in
-      let w = t.args.answer in refused-line w _ _ _ _ _ _ t.if-answer-eq0.false p.ensures.1 d.ensures.1 e.ensures.1 c.put_number-at.ensures.front refl refl;
+      let w = t.args.answer in refused-line w _ _ _ _ _ _ t.if-answer-eq0.false p.ensures.front d.ensures.front e.ensures.front c.put_number-at.ensures.front refl refl;
 }

@@ -2,7 +2,6 @@
 use Prim.Native.Nat.{ℕ}
 use mathlib.Core.Path.{◌≡◌, sym, ap, ◌∙◌}
 use native.Mathlib.Omega.{arith}
-use borrow.Author.Tests.{not-true, not-false}
 use lib.ListN.{length}
 use Rattle.contents.proofs.Editions.{sections-low}
 use Rattle.book.proofs.Shape.{first_word}
@@ -25,7 +24,7 @@ returns-then-not-is_accepted c = record {
       let b = s.book.now in
       counts-refused b _ _ _ _ _ _ (c.count_answer-a.ensures.answer (held b).source (held b).target
       (sym c.word_count.ensures.count) (sym c.word_count-2.ensures.count))
-      (sym c.is_accepted.ensures.test ∙ not-true _ c.if-not-is_accepted.true);
+      (sym c.is_accepted.ensures.test ∙ c.if-not-is_accepted.true);
 }
 
 pub sections-n-requires : goal.sections-n-requires
@@ -54,7 +53,7 @@ returns-then-room-offset c = record {
       let b = s.book.now in
       words-short b _ _ _ _ _ _ (t.before.before.count-answer.ensures (held b).source (held b).target
       (sym t.word_count.ensures.count) (sym t.word_count-2.ensures.count))
-      (sym t.is_accepted.ensures.test ∙ not-false _ t.if-not-is_accepted.false) _ (counted c.before) c.if-room-offset.true;
+      (sym t.is_accepted.ensures.test ∙ t.if-not-is_accepted.false) _ (counted c.before) c.if-room-offset.true;
 }
 
 pub returns : goal.returns
@@ -65,5 +64,5 @@ returns c = record {
       let b = s.book.now in
       room-good b _ _ _ _ _ _ (t.before.before.count-answer.ensures (held b).source (held b).target
       (sym t.word_count.ensures.count) (sym t.word_count-2.ensures.count))
-      (sym t.is_accepted.ensures.test ∙ not-false _ t.if-not-is_accepted.false) _ (counted c.before) c.if-room-offset.false;
+      (sym t.is_accepted.ensures.test ∙ t.if-not-is_accepted.false) _ (counted c.before) c.if-room-offset.false;
 }

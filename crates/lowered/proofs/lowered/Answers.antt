@@ -65,7 +65,7 @@ returns c = record {
       let at-start = start at-clear-arg in
       let p = at-start.pre in
       let n = at-row-count.row_count-n.ensures.count in
-      let m = c.matches.ensures in m.0;
+      let m = c.matches.ensures in m.answer;
   class_list = let at-row-count = c.before.before.before.before.before.before.before in
       let at-clear2 = at-row-count.before.before.before in
       let at_clear = at-clear2.before.before.before.before in
@@ -73,7 +73,7 @@ returns c = record {
       let at-start = start at-clear-arg in
       let p = at-start.pre in
       let n = at-row-count.row_count-n.ensures.count in
-      let m = c.matches.ensures in λ h. rw (m.1.0 h, at_clear.clear.ensures.zeros, n, zeros-back _ _ p.1.1.0);
+      let m = c.matches.ensures in λ h. rw (m.class_list h, at_clear.clear.ensures.zeros, n, zeros-back _ _ p.1.1.0);
   entry_list = let at-row-count = c.before.before.before.before.before.before.before in
       let at-clear2 = at-row-count.before.before.before in
       let at_clear = at-clear2.before.before.before.before in
@@ -81,5 +81,5 @@ returns c = record {
       let at-start = start at-clear-arg in
       let p = at-start.pre in
       let n = at-row-count.row_count-n.ensures.count in
-      let m = c.matches.ensures in λ h. rw (m.1.1 h, at-clear2.clear-2.ensures.zeros, n, zeros-back _ _ p.1.1.1.0);
+      let m = c.matches.ensures in λ h. rw (m.entry_list h, at-clear2.clear-2.ensures.zeros, n, zeros-back _ _ p.1.1.1.0);
 }

@@ -4,7 +4,6 @@ use mathlib.Core.Path.{◌≡◌, sym, ap, ◌∙◌}
 use mathlib.Core.Bool.{true}
 use lib.ListN.{length, length-replicate}
 use mathlib.Core.List.{[]}
-use borrow.Author.Tests.{not-true, not-false}
 use Rattle.sorts.specs.Sorts.{edition, plain}
 use Rattle.images.proofs.Constants.{bits-within}
 use Rattle.images.proofs.Equality.{eqs-even}
@@ -46,7 +45,7 @@ map-fits : (c : goal.After-entries-t) → (let L = input (entry c) in length L.m
 map-fits c = (mapped c).if-map-n.false ∙ (mapped c).before.row_count-n.ensures.count
 
 tables-accepted : (c : goal.Else-not-is_accepted) → is_accepted (tabled c).entries-t.result ≡ true
-tables-accepted c = sym c.is_accepted.ensures.test ∙ not-false _ c.if-not-is_accepted.false
+tables-accepted c = sym c.is_accepted.ensures.test ∙ c.if-not-is_accepted.false
 
 pub returns-then-map-n : goal.returns-then-map-n
 returns-then-map-n c = record {
@@ -78,7 +77,7 @@ returns-then-not-is_accepted c =
     let p = at-start.pre in
     let L = input at-start in
     tables-done L _ _ _ p.1.0 p.1.1.0 p.1.1.1.0 _ _ _ at-entries.entries-t.ensures.answer at-entries.entries-t.ensures.classes
-    at-entries.entries-t.ensures.offsets (map-fits at-entries) (sym c.is_accepted.ensures.test ∙ not-true _ c.if-not-is_accepted.true)
+    at-entries.entries-t.ensures.offsets (map-fits at-entries) (sym c.is_accepted.ensures.test ∙ c.if-not-is_accepted.true)
 
 pub ext_rows-r-requires : goal.ext_rows-r-requires
 ext_rows-r-requires c = record {
@@ -106,7 +105,7 @@ returns-then-not-is_accepted-2 c =
     rows-done L _ _ _ p.1.0 p.1.1.0 p.1.1.1.0 _ _ _ at-entries.entries-t.ensures.answer at-entries.entries-t.ensures.classes
     at-entries.entries-t.ensures.offsets (map-fits at-entries) (tables-accepted at-else2) _ _
     c.ext_rows-r.ensures.answer c.ext_rows-r.ensures.list
-    (sym c.is_accepted-2.ensures.test ∙ not-true _ c.if-not-is_accepted-2.true)
+    (sym c.is_accepted-2.ensures.test ∙ c.if-not-is_accepted-2.true)
 
 pub returns-then-dead-cls : goal.returns-then-dead-cls
 returns-then-dead-cls c =
@@ -119,7 +118,7 @@ returns-then-dead-cls c =
     dead-done L _ _ _ p.1.0 p.1.1.0 p.1.1.1.0 _ _ _ at-entries.entries-t.ensures.answer at-entries.entries-t.ensures.classes
     at-entries.entries-t.ensures.offsets (map-fits at-entries) (tables-accepted at-else2) _ _ at-ext-rows.ext_rows-r.ensures.answer
     at-ext-rows.ext_rows-r.ensures.list (sym c.is_accepted-2.ensures.test
-    ∙ not-false _ c.if-not-is_accepted-2.false) _ (at-ext-rows.ext_rows-r.auto.1.1.1.1.1.1.1.1.1.1.0
+    ∙ c.if-not-is_accepted-2.false) _ (at-ext-rows.ext_rows-r.auto.1.1.1.1.1.1.1.1.1.1.0
     ∙ at-entries.entries-t.auto.cls ∙ ap length p.1.1.0 ∙ length-replicate {A = ℕ} _ 0) c.dead_entry-dead.ensures.variable
     c.if-dead-cls.true
 
@@ -178,6 +177,6 @@ returns c =
     roots-done L _ _ _ p.1.0 p.1.1.0 p.1.1.1.0 _ _ _ at-entries.entries-t.ensures.answer at-entries.entries-t.ensures.classes
     at-entries.entries-t.ensures.offsets (map-fits at-entries) (tables-accepted at-else2) _ _ at-ext-rows.ext_rows-r.ensures.answer
     at-ext-rows.ext_rows-r.ensures.list (sym c.is_accepted-2.ensures.test
-    ∙ not-false _ c.if-not-is_accepted-2.false) _
+    ∙ c.if-not-is_accepted-2.false) _
     (at-ext-rows.ext_rows-r.auto.1.1.1.1.1.1.1.1.1.1.0 ∙ at-entries.entries-t.auto.cls ∙ ap length p.1.1.0
     ∙ length-replicate {A = ℕ} _ 0) c.dead_entry-dead.ensures.variable _ c.if-dead-cls.false c.roots.ensures.answer

@@ -48,7 +48,7 @@ returns-then-not-is_accepted c =
     let l = at-loop.loop-i in
     let e = c.ext_step-a.ensures in
     rows-stop (asked at-start) (known at-start) l.i l.cls l.invariant.3 l.invariant.2 _ _
-    (rw at-row-count.row_count-n.ensures.count at in-loop.loop-i-test.true) e.0 e.1 (rw c.is_accepted.ensures.test at c.if-not-is_accepted.true)
+    (rw at-row-count.row_count-n.ensures.count at in-loop.loop-i-test.true) e.answer e.list (rw c.is_accepted.ensures.test at c.if-not-is_accepted.true)
 
 pub loop-i-preserved : goal.loop-i-preserved
 loop-i-preserved c =
@@ -60,7 +60,7 @@ loop-i-preserved c =
     let e = c.ext_step-a.ensures in
     let more =
     rows_more (asked at-start) (known at-start) l.i l.cls l.invariant.3 l.invariant.2 _ _
-    (rw at-row-count.row_count-n.ensures.count at in-loop.loop-i-test.true) e.0 e.1
+    (rw at-row-count.row_count-n.ensures.count at in-loop.loop-i-test.true) e.answer e.list
     (rw c.is_accepted.ensures.test at c.if-not-is_accepted.false) in
     let k = c.ext_step-a.auto in
     (omega arith, omega (arith, k), more.0, more.1)

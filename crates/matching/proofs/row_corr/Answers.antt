@@ -25,18 +25,18 @@ known c = let s = c.args in noted s.cls.now s.ent.now
 pub const_corr-requires : goal.const_corr-requires
 const_corr-requires c =
     let p = (start c.before).requires in
-    (p.1.1.1, const-ready _ _ p.0 _ p.1.1.0 _ c.row-e.ensures.row, consts-target _ _ p.0)
+    (p.i_bound.1, const-ready _ _ p.formed _ p.i_bound.0 _ c.row-e.ensures.row, consts-target _ _ p.formed)
 
 pub select_corr-requires : goal.select_corr-requires
 select_corr-requires c = record {
-  e_bound = let p = (start c.before.before).requires in select-ready _ _ p.0 _ p.1.1.0 _ c.row-e.ensures.row c.in-37.is;
-  ent_len = let p = (start c.before.before).requires in p.1.0;
+  e_bound = let p = (start c.before.before).requires in select-ready _ _ p.formed _ p.i_bound.0 _ c.row-e.ensures.row c.in-37.is;
+  ent_len = let p = (start c.before.before).requires in p.ent_len;
 }
 
 pub call_corr-requires : goal.call_corr-requires
 call_corr-requires c = record {
-  r_bound = let p = (start c.before.before).requires in (p.1.1.1, p.1.0.0, p.1.0.1);
-  args_within = let p = (start c.before.before).requires in call-ready _ _ p.0 _ p.1.1.0 _ c.row-e.ensures.row c.in-38.is;
+  r_bound = let p = (start c.before.before).requires in (p.i_bound.1, p.ent_len.0, p.ent_len.1);
+  args_within = let p = (start c.before.before).requires in call-ready _ _ p.formed _ p.i_bound.0 _ c.row-e.ensures.row c.in-38.is;
 }
 
 pub returns-in-0 : goal.returns-in-0
@@ -90,7 +90,7 @@ returns-in_default c =
     let p = at-start.pre in
     let s = at-start.args in
     let q = at_row.row-e.ensures.row in
-    let n = c.in_default.in_default-own in
+    let n = c.in_default.in_default-own.rest in
     let t = plain_ready _ _ p.0 _ p.1.1.0 _ q n.0.0.0.1 n.0.0.1 n.0.1 n.1 in
     outcome _ _ (NodeMismatch s.i) _ _ _ _ _ _ refl c.node_corr.ensures.test (sym (cond_same c.node_corr.result s.cls.now))
     c.matched-in_default.ensures.answer (plain-answer (asked at-start) (known at-start) s.i s.r _ q t)

@@ -1,6 +1,6 @@
 -- The index is where it belongs and is earlier, the list holds good pairs, then the rule on the index's width. Assumes nothing.
 use mathlib.Core.Path.{◌∙◌, sym}
-use borrow.Author.Tests.{eq-eqb, ne_eqb, lt-ltb, le-ltb, not-true, not-false}
+use borrow.Author.Tests.{eq-eqb, ne_eqb, lt-ltb, le-ltb}
 use Rattle.rules.proofs.Rule.{either-zero}
 use Rattle.operands.proofs.chain_row.Goals as goal
 
@@ -14,7 +14,7 @@ pub returns-then-not-chain_wf : goal.returns-then-not-chain_wf
 returns-then-not-chain_wf c = record {
   width =
       let index = c.before.before in
-      let bad = sym c.chain_wf.ensures.test ∙ not-true _ c.if-not-chain_wf.true in
+      let bad = sym c.chain_wf.ensures.test ∙ c.if-not-chain_wf.true in
       rw (eq-eqb _ _ index.if-rule-ne-CHAIN.false, lt-ltb _ _ index.if-ws-x.false, bad, either-zero);
 }
 
@@ -23,6 +23,6 @@ returns c = record {
   width =
       let pairs = c.before.before in
       let index = pairs.before.before in
-      let good = sym pairs.chain_wf.ensures.test ∙ not-false _ pairs.if-not-chain_wf.false in
+      let good = sym pairs.chain_wf.ensures.test ∙ pairs.if-not-chain_wf.false in
       rw (eq-eqb _ _ index.if-rule-ne-CHAIN.false, lt-ltb _ _ index.if-ws-x.false, good) c.width_index.ensures.width;
 }

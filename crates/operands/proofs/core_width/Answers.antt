@@ -14,6 +14,6 @@ returns-in-4 c = record { width = rw c.in-4.is c.two_rows.ensures.width }
 pub returns-in_default : goal.returns-in_default
 returns-in_default c = record {
   width =
-      let rest = c.in_default.in_default-own in
+      let rest = c.in_default.in_default-own.rest in
       rw (ne_eqb _ _ rest.0.0.1, ne_eqb _ _ rest.0.1, ne_eqb _ _ rest.1) c.three_rows.ensures.width;
 }

@@ -3,7 +3,6 @@ use Prim.Native.Nat.{◌+◌}
 use mathlib.Core.Path.{◌∙◌, sym}
 use mathlib.Core.Bool.{false≢true}
 use native.Mathlib.Omega.{arith}
-use borrow.Author.Tests.{not-false}
 use Rattle.cases.specs.Case.{given}
 use Rattle.paired.proofs.Same.{check-bits, lent-low, check-at}
 use Rattle.paired.proofs.check_agrees.Goals as goal
@@ -46,9 +45,9 @@ returns c = record {
       let a = start.args in
       let w = a.words.now in
       let at = at-lent.lent_at_lem.result in
-      let ebits = at-copy-bytes.copy_bytes.ensures.copied (not-false _ else2.if-not-copy_bytes.false) ∙ at-given.given-bits.ensures.list in
-      let tbits = at-copy-bytes2.copy_bytes-2.ensures.copied (not-false _ else3.if-not-copy_bytes-2.false) ∙ at-given2.given-bits_too.ensures.list in
-      λ e. check-at a.strict a.second w at at-lent.lent_at_lem.ensures (sym at-has-shape.has_shape.ensures.shape ∙ not-false _ else1.if-not-has_shape.false)
+      let ebits = at-copy-bytes.copy_bytes.ensures.copied (else2.if-not-copy_bytes.false) ∙ at-given.given-bits.ensures.list in
+      let tbits = at-copy-bytes2.copy_bytes-2.ensures.copied (else3.if-not-copy_bytes-2.false) ∙ at-given2.given-bits_too.ensures.list in
+      λ e. check-at a.strict a.second w at at-lent.lent_at_lem.ensures (sym at-has-shape.has_shape.ensures.shape ∙ else1.if-not-has_shape.false)
       (check-bits a.strict a.second w (given w at) (given w (at + 1)) (given w (at + 2)) (given w (at + 3)) ebits tbits
       (c.lowering_agrees.ensures.agreed e));
 }

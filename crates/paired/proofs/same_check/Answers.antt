@@ -1,6 +1,5 @@
 -- The answer and the lists, each by its test. Assumes nothing.
 use mathlib.Core.Bool.{false≢true}
-use borrow.Author.Tests.{not-false}
 use Rattle.paired.proofs.Same.{same-four}
 use Rattle.paired.proofs.same_check.Goals as goal
 
@@ -18,6 +17,6 @@ returns c = record {
       let else1 = at-same-both.before.before.before in
       let at-same-answer = else1.before in
       let at-call-check = at-same-answer.before.before.before.before.before.before.before.before.before in
-      λ e. same-four at-call-check.call_check-a.ensures.outcome (at-same-answer.same_answer.ensures.equal.0 (not-false _ else1.if-not-same_answer.false))
-      (at-same-both.same_both.ensures.equal (not-false _ else2.if-not-same_both.false)) (c.same_both-2.ensures.equal e);
+      λ e. same-four at-call-check.call_check-a.ensures.outcome (at-same-answer.same_answer.ensures.equal.0 (else1.if-not-same_answer.false))
+      (at-same-both.same_both.ensures.equal (else2.if-not-same_both.false)) (c.same_both-2.ensures.equal e);
 }

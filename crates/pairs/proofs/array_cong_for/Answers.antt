@@ -2,7 +2,7 @@ use Prim.Native.Nat.{◌+◌, ◌*◌, ◌≤◌, ◌<◌, ◌-◌}
 use mathlib.Core.Path.{◌≡◌, refl, ◌∙◌, sym}
 use mathlib.Core.Logic.{⊎_elim}
 use native.Mathlib.Omega.{arith}
-use borrow.Author.Tests.{not-true, not-false}
+use borrow.Author.Tests.{not-false}
 use lib.ListN.{length}
 use Rattle.rows.specs.declared.Graph.TheVariants.{Target}
 use Rattle.rows.specs.Row.{row_count}
@@ -50,7 +50,7 @@ pub bounds-reads-at-3 : goal.bounds-reads-at-3
 bounds-reads-at-3 c = omega (arith, whole c.before.before.before.before.before.before.before.before)
 
 pub row-rp-requires : goal.row-rp-requires
-row-rp-requires c = let p = c.requires in (p.0 _ p.1.1).1
+row-rp-requires c = let p = c.requires in (p.reads_in _ p.k_bound).1
 
 pub overflow_add-l : goal.overflow_add-l
 overflow_add-l c = omega (arith, whole c.before.before.before.before.before.before.before.before.before)
@@ -111,11 +111,11 @@ returns-then-not-read_stands c = record {
       let at-loop = in-loop.before in
       row-stop at-loop.loop-l.invariant.1 (rw (counted at-loop).read_count-n.ensures.count at in-loop.loop-l-test.true)
       (sym (needs-is c.before.before.before.before.before) ∙ c.if-read_needs.true)
-      (sym (stands-is c.before) ∙ not-true _ c.if-not-read_stands.true);
+      (sym (stands-is c.before) ∙ c.if-not-read_stands.true);
 }
 
 pub overflow_add-idx : goal.overflow_add-idx
-overflow_add-idx c = omega (arith, root-inside _ _ _ _ (sym (stands-is c.before) ∙ not-false _ c.if-not-read_stands.false))
+overflow_add-idx c = omega (arith, root-inside _ _ _ _ (sym (stands-is c.before) ∙ c.if-not-read_stands.false))
 
 pub loop-l-preserved : goal.loop-l-preserved
 unfolding root_at

@@ -24,9 +24,9 @@ returns c = record {
   sound = let k = c.before.before.before in
       let v = k.verdict-answer.ensures in
       let l = c.write_line.ensures.line ∙ ap line_of c.words_of-words.ensures.words in
-      let r = k.verdict-answer.result in line-means _ _ r l v.1.0;
+      let r = k.verdict-answer.result in line-means _ _ r l v.sound;
   choices = let k = c.before.before.before in
       let v = k.verdict-answer.ensures in
       let l = c.write_line.ensures.line ∙ ap line_of c.words_of-words.ensures.words in
-      let r = k.verdict-answer.result in line-means _ _ r l v.1.1;
+      let r = k.verdict-answer.result in line-means _ _ r l v.choices;
 }

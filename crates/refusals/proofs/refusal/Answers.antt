@@ -1,7 +1,7 @@
 -- Each return is a path through the definition's tests. Assumes nothing.
 use mathlib.Core.Path.{◌≡◌, sym, ◌∙◌}
 use mathlib.Core.Bool.{false}
-use borrow.Author.Tests.{lt-ltb, le-ltb, not-true, not-false}
+use borrow.Author.Tests.{lt-ltb, le-ltb}
 use lib.Dec.{ltb}
 use lib.ListN.{length}
 use Rattle.rows.specs.Row.{row_count}
@@ -51,7 +51,7 @@ pub returns-then-not-is_accepted : goal.returns-then-not-is_accepted
 returns-then-not-is_accepted c = record {
   answer =
       let bits = c.before.before in
-      rw (rows-good bits.before.before, bits-good bits, sym c.is_accepted.ensures.test ∙ not-true _ c.if-not-is_accepted.true);
+      rw (rows-good bits.before.before, bits-good bits, sym c.is_accepted.ensures.test ∙ c.if-not-is_accepted.true);
 }
 
 pub returns : goal.returns
@@ -59,6 +59,6 @@ returns c = record {
   answer =
       let table = c.before in
       let bits = table.before.before in
-      let yes = sym table.is_accepted.ensures.test ∙ not-false _ table.if-not-is_accepted.false in
+      let yes = sym table.is_accepted.ensures.test ∙ table.if-not-is_accepted.false in
       rw (rows-good bits.before.before, bits-good bits, yes, lt-ltb _ _ ((start bits.before.before).requires.stop_bound_2 yes)) c.ill_formed.ensures.answer;
 }

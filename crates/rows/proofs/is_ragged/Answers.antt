@@ -2,7 +2,7 @@
 use Rattle.rows.proofs.is_ragged.Goals as goal
 
 pub returns-in-Source : goal.returns-in-Source
-returns-in-Source c = record { test = rw c.enum_told-1.given.1 }
+returns-in-Source c = record { test = rw c.in-Source.is }
 
 pub returns-in-Target : goal.returns-in-Target
-returns-in-Target c = record { test = rw c.enum_told-in-Target-1.given.1 }
+returns-in-Target c = record { test = rw c.in-Target.is }

@@ -39,17 +39,17 @@ pub returns-then-t-lt-SELECT : goal.returns-then-t-lt-SELECT
 returns-then-t-lt-SELECT c = record {
   node =
       rw (
-        ne_eqb _ _ c.in_default.in_default-own.0.0.0.0.0.0.0.0.0.0.1,
-        ne_eqb _ _ c.in_default.in_default-own.0.0.0.0.0.0.0.0.0.1,
-        ne_eqb _ _ c.in_default.in_default-own.0.0.0.0.0.0.0.0.1,
-        ne_eqb _ _ c.in_default.in_default-own.0.0.0.0.0.0.0.1,
-        ne_eqb _ _ c.in_default.in_default-own.0.0.0.0.0.0.1,
-        ne_eqb _ _ c.in_default.in_default-own.0.0.0.0.0.1,
-        ne_eqb _ _ c.in_default.in_default-own.0.0.0.0.1,
-        ne_eqb _ _ c.in_default.in_default-own.0.0.0.1,
-        ne_eqb _ _ c.in_default.in_default-own.0.0.1,
-        ne_eqb _ _ c.in_default.in_default-own.0.1,
-        ne_eqb _ _ c.in_default.in_default-own.1,
+        ne_eqb _ _ c.in_default.in_default-own.rest.0.0.0.0.0.0.0.0.0.0.1,
+        ne_eqb _ _ c.in_default.in_default-own.rest.0.0.0.0.0.0.0.0.0.1,
+        ne_eqb _ _ c.in_default.in_default-own.rest.0.0.0.0.0.0.0.0.1,
+        ne_eqb _ _ c.in_default.in_default-own.rest.0.0.0.0.0.0.0.1,
+        ne_eqb _ _ c.in_default.in_default-own.rest.0.0.0.0.0.0.1,
+        ne_eqb _ _ c.in_default.in_default-own.rest.0.0.0.0.0.1,
+        ne_eqb _ _ c.in_default.in_default-own.rest.0.0.0.0.1,
+        ne_eqb _ _ c.in_default.in_default-own.rest.0.0.0.1,
+        ne_eqb _ _ c.in_default.in_default-own.rest.0.0.1,
+        ne_eqb _ _ c.in_default.in_default-own.rest.0.1,
+        ne_eqb _ _ c.in_default.in_default-own.rest.1,
         lt-ltb _ _ c.if-t-lt-SELECT.true,
       );
 }
@@ -58,17 +58,17 @@ pub returns-else-t-lt-SELECT : goal.returns-else-t-lt-SELECT
 returns-else-t-lt-SELECT c = record {
   node =
       rw (
-        ne_eqb _ _ c.in_default.in_default-own.0.0.0.0.0.0.0.0.0.0.1,
-        ne_eqb _ _ c.in_default.in_default-own.0.0.0.0.0.0.0.0.0.1,
-        ne_eqb _ _ c.in_default.in_default-own.0.0.0.0.0.0.0.0.1,
-        ne_eqb _ _ c.in_default.in_default-own.0.0.0.0.0.0.0.1,
-        ne_eqb _ _ c.in_default.in_default-own.0.0.0.0.0.0.1,
-        ne_eqb _ _ c.in_default.in_default-own.0.0.0.0.0.1,
-        ne_eqb _ _ c.in_default.in_default-own.0.0.0.0.1,
-        ne_eqb _ _ c.in_default.in_default-own.0.0.0.1,
-        ne_eqb _ _ c.in_default.in_default-own.0.0.1,
-        ne_eqb _ _ c.in_default.in_default-own.0.1,
-        ne_eqb _ _ c.in_default.in_default-own.1,
+        ne_eqb _ _ c.in_default.in_default-own.rest.0.0.0.0.0.0.0.0.0.0.1,
+        ne_eqb _ _ c.in_default.in_default-own.rest.0.0.0.0.0.0.0.0.0.1,
+        ne_eqb _ _ c.in_default.in_default-own.rest.0.0.0.0.0.0.0.0.1,
+        ne_eqb _ _ c.in_default.in_default-own.rest.0.0.0.0.0.0.0.1,
+        ne_eqb _ _ c.in_default.in_default-own.rest.0.0.0.0.0.0.1,
+        ne_eqb _ _ c.in_default.in_default-own.rest.0.0.0.0.0.1,
+        ne_eqb _ _ c.in_default.in_default-own.rest.0.0.0.0.1,
+        ne_eqb _ _ c.in_default.in_default-own.rest.0.0.0.1,
+        ne_eqb _ _ c.in_default.in_default-own.rest.0.0.1,
+        ne_eqb _ _ c.in_default.in_default-own.rest.0.1,
+        ne_eqb _ _ c.in_default.in_default-own.rest.1,
         le-ltb _ _ c.if-t-lt-SELECT.false,
       );
 }

@@ -2,13 +2,13 @@
 use Rattle.rows.proofs.row.Goals as goal
 
 pub source_row-requires : goal.source_row-requires
-source_row-requires c = rw c.enum_told-1.given.1 at c.requires
+source_row-requires c = rw c.in-Source.is at c.requires
 
 pub target_row-requires : goal.target_row-requires
-target_row-requires c = rw c.enum_told-in-Target-1.given.1 at c.requires
+target_row-requires c = rw c.in-Target.is at c.requires
 
 pub returns-in-Source : goal.returns-in-Source
-returns-in-Source c = record { row = rw c.enum_told-1.given.1 c.source_row.ensures.row }
+returns-in-Source c = record { row = rw c.in-Source.is c.source_row.ensures.row }
 
 pub returns-in-Target : goal.returns-in-Target
-returns-in-Target c = record { row = rw c.enum_told-in-Target-1.given.1 c.target_row.ensures.row }
+returns-in-Target c = record { row = rw c.in-Target.is c.target_row.ensures.row }

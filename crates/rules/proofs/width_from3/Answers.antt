@@ -9,4 +9,4 @@ pub returns-in-2 : goal.returns-in-2
 returns-in-2 c = record { width = rw c.in-2.is (sym (in-word _ (omega arith))) }
 
 pub returns-in_default : goal.returns-in_default
-returns-in_default c = record { width = rw (ne_eqb _ _ c.in_default.in_default-own.1) }
+returns-in_default c = record { width = rw (ne_eqb _ _ c.in_default.in_default-own.rest.1) }

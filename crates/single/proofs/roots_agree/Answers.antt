@@ -3,7 +3,6 @@ use mathlib.Core.Path.{◌∙◌, sym, ap}
 use mathlib.Core.List.{List}
 use Prim.Native.Nat.{ℕ}
 use mathlib.Core.Bool.{false≢true}
-use borrow.Author.Tests.{not-false}
 use Rattle.answers.specs.Answer.{words_of}
 use Rattle.widths.specs.Widths.{roots_answer}
 use Rattle.cases.specs.Case.{given}
@@ -20,7 +19,7 @@ returns c = record {
       let roots =
       ap (λ (x : List ℕ). words_of (roots_answer c.given-widths.result.now x)) (sym c.given.ensures.list) in
       λ e. (
-        sym c.has_shape.ensures.shape ∙ not-false _ c.if-not-has_shape.false,
+        sym c.has_shape.ensures.shape ∙ c.if-not-has_shape.false,
         widths
             ∙ roots ∙ sym c.gilfrunt_roots-a.ensures.answer ∙ c.same_answer.ensures.equal.0 e,
       );

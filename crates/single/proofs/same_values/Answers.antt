@@ -1,6 +1,5 @@
 -- The answer and the lists, each by its test. Assumes nothing.
 use mathlib.Core.Bool.{false≢true}
-use borrow.Author.Tests.{not-false}
 use Rattle.single.proofs.Same.{same-two, values-call}
 use Rattle.single.proofs.same_values.Goals as goal
 
@@ -18,6 +17,6 @@ returns c = record {
       let start = at-given.before.before.before.before.before in
       let a = start.args in
       λ e. values-call a.words.now a.bits.now a.widths.now a.numbers.now at-given.given-rows.ensures.list at-given2.given.ensures.list
-      (same-two at-gilfrunt-values.gilfrunt_values-a.ensures.outcome (at-same-answer.same_answer.ensures.equal.0 (not-false _ else1.if-not-same_answer.false))
+      (same-two at-gilfrunt-values.gilfrunt_values-a.ensures.outcome (at-same-answer.same_answer.ensures.equal.0 (else1.if-not-same_answer.false))
       (c.same_both.ensures.equal e));
 }

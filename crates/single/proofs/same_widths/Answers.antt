@@ -1,6 +1,5 @@
 -- The answer and the list, each by its test. Assumes nothing.
 use mathlib.Core.Bool.{false≢true}
-use borrow.Author.Tests.{not-false}
 use Rattle.single.proofs.Same.{same-one}
 use Rattle.single.proofs.same_widths.Goals as goal
 
@@ -11,5 +10,5 @@ pub returns : goal.returns
 returns c = record {
   agreed =
       λ e. same-one c.call_widths-a.ensures.outcome
-      (c.same_answer.ensures.equal.0 (not-false _ c.if-not-same_answer.false)) (c.same_lent.ensures.equal.0 e);
+      (c.same_answer.ensures.equal.0 (c.if-not-same_answer.false)) (c.same_lent.ensures.equal.0 e);
 }

@@ -1,7 +1,6 @@
 -- The copies are the case's lists. Assumes nothing.
 use mathlib.Core.Path.{◌∙◌, sym}
 use mathlib.Core.Bool.{false≢true}
-use borrow.Author.Tests.{not-false}
 use Rattle.single.proofs.Same.{values-copied}
 use Rattle.cases.specs.Case.{given}
 use Rattle.single.proofs.values_agree.Goals as goal
@@ -26,11 +25,11 @@ returns c = record {
       let at-has-shape = else1.before in
       let start = at-has-shape.before.before in
       let w = start.args.words.now in
-      let bits = at-copy-bytes.copy_bytes.ensures.copied (not-false _ else2.if-not-copy_bytes.false) ∙ at-given.given-bits.ensures.list in
+      let bits = at-copy-bytes.copy_bytes.ensures.copied (else2.if-not-copy_bytes.false) ∙ at-given.given-bits.ensures.list in
       let widths = at-lend.lend-n.ensures.copied ∙ at-given2.given.ensures.list in
       let numbers = at-lend2.lend-m.ensures.copied ∙ at-given3.given-2.ensures.list in
       λ e. (
-        sym at-has-shape.has_shape.ensures.shape ∙ not-false _ else1.if-not-has_shape.false,
+        sym at-has-shape.has_shape.ensures.shape ∙ else1.if-not-has_shape.false,
         values-copied (given w 0) (given w 2) bits widths numbers (c.same_values.ensures.agreed e),
       );
 }

@@ -1,7 +1,6 @@
 -- The copies are the case's lists. Assumes nothing.
 use mathlib.Core.Path.{◌∙◌, sym}
 use mathlib.Core.Bool.{false≢true}
-use borrow.Author.Tests.{not-false}
 use Rattle.single.proofs.Same.{widths-copied}
 use Rattle.single.proofs.widths_agree.Goals as goal
 
@@ -23,10 +22,10 @@ returns c = record {
       let at-has-shape = else1.before in
       let start = at-has-shape.before.before in
       let a = start.args in
-      let bits = at-copy-bytes.copy_bytes.ensures.copied (not-false _ else2.if-not-copy_bytes.false) ∙ at-given.given-bits.ensures.list in
+      let bits = at-copy-bytes.copy_bytes.ensures.copied (else2.if-not-copy_bytes.false) ∙ at-given.given-bits.ensures.list in
       let lent = at-lend.lend-n.ensures.copied ∙ at-given2.given.ensures.list in
       λ e. (
-        sym at-has-shape.has_shape.ensures.shape ∙ not-false _ else1.if-not-has_shape.false,
+        sym at-has-shape.has_shape.ensures.shape ∙ else1.if-not-has_shape.false,
         widths-copied a.source a.second a.words.now bits lent (c.same_widths.ensures.agreed e),
       );
 }

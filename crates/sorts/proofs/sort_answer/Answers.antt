@@ -1,11 +1,10 @@
 use Prim.Native.Nat.{◌-◌}
-use mathlib.Core.Path.{sym}
+use mathlib.Core.Path.{sym, ◌∙◌}
 use mathlib.Core.Bool.{true}
 use native.Mathlib.Nat.{not-suc-le-zero}
 use native.Mathlib.Omega.{arith}
 use borrow.Author.Count.{below_more}
 use borrow.Author.Tests.{not-true, not-false}
-use Rattle.lists.proofs.Choice.{tested-no, tested-yes}
 use Rattle.sorts.specs.Sorts.{sort_good}
 use Rattle.sorts.proofs.Sorts.{sort-bad, sort-none}
 use Rattle.sorts.proofs.sort_answer.Goals as goal
@@ -25,12 +24,12 @@ returns-then-not-sort_good c = record {
       let p = c.before.before.before in
       let s = p.args in
       rw (not-false s.second p.if-not-second.false)
-      (sym (sort-bad s.table.now p.loop-k.k (omega arith) (tested-no _ _ c.sort_good.ensures.test c.if-not-sort_good.true) p.loop-k.invariant.1));
+      (sym (sort-bad s.table.now p.loop-k.k (omega arith) (sym c.sort_good.ensures.test ∙ c.if-not-sort_good.true) p.loop-k.invariant.1));
 }
 
 pub loop-k-preserved : goal.loop-k-preserved
 loop-k-preserved c =
-    (omega arith, below_more _ _ c.loop-k.invariant.1 (tested-yes _ _ c.sort_good.ensures.test c.if-not-sort_good.false))
+    (omega arith, below_more _ _ c.loop-k.invariant.1 (sym c.sort_good.ensures.test ∙ c.if-not-sort_good.false))
 
 pub returns : goal.returns
 returns c = record {

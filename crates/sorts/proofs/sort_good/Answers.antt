@@ -1,7 +1,6 @@
 -- Its four tests in order. Assumes nothing.
-use mathlib.Core.Path.{sym}
+use mathlib.Core.Path.{sym, ◌∙◌}
 use native.Mathlib.Omega.{arith}
-use Rattle.lists.proofs.Choice.{tested-no, tested-yes}
 use Rattle.sorts.proofs.Sorts.{sort-cut, sort-unsorted, sort-no-index, sort-cell}
 use Rattle.sorts.proofs.sort_good.Goals as goal
 
@@ -12,7 +11,7 @@ pub returns-then-not-rises : goal.returns-then-not-rises
 returns-then-not-rises c = record {
   test =
       let s = c.args in
-      sym (sort-unsorted s.table.now s.k (omega arith) (tested-no _ _ c.rises.ensures.test c.if-not-rises.true));
+      sym (sort-unsorted s.table.now s.k (omega arith) (sym c.rises.ensures.test ∙ c.if-not-rises.true));
 }
 
 pub returns-then-table-at-eq0 : goal.returns-then-table-at-eq0
@@ -20,7 +19,7 @@ returns-then-table-at-eq0 c = record {
   test =
       let q = c.before.before in
       let s = q.args in
-      sym (sort-no-index s.table.now s.k (omega arith) (tested-yes _ _ q.rises.ensures.test q.if-not-rises.false) (omega arith));
+      sym (sort-no-index s.table.now s.k (omega arith) (sym q.rises.ensures.test ∙ q.if-not-rises.false) (omega arith));
 }
 
 pub returns : goal.returns
@@ -28,5 +27,5 @@ returns c = record {
   test =
       let q = c.before.before.before in
       let s = q.args in
-      sort-cell s.table.now s.k (omega arith) (tested-yes _ _ q.rises.ensures.test q.if-not-rises.false) (omega arith);
+      sort-cell s.table.now s.k (omega arith) (sym q.rises.ensures.test ∙ q.if-not-rises.false) (omega arith);
 }

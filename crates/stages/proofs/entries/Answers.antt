@@ -15,8 +15,8 @@ returns-then-r-read_count c = record {
       let at-start = at-read-entries.before.before.before.before.before.before.before.before.before.before.before in
       let s = at-start.args in
       let σ = sorts_of (edition s.second s.sorts.now) in
-      let r = at-read-entries.read_entries-r.ensures in ap ReadTable r.0 ∙ sym (read-5 σ (entries s.reads.now s.calls.now s.cargs.now) s.target.now s.ws.now s.cls.now
-      (rw (r.0, c.read_count.ensures.count) at c.if-r-read_count.true));
+      let r = at-read-entries.read_entries-r.ensures in ap ReadTable r.entry ∙ sym (read-5 σ (entries s.reads.now s.calls.now s.cargs.now) s.target.now s.ws.now s.cls.now
+      (rw (r.entry, c.read_count.ensures.count) at c.if-r-read_count.true));
   classes = let at-read-entries = c.before.before.before.before.before.before in
       let at-start = at-read-entries.before.before.before.before.before.before.before.before.before.before.before in
       let s = at-start.args in
@@ -40,12 +40,12 @@ returns-then-c-call_count c = record {
       let σ = sorts_of (edition s.second s.sorts.now) in
       let r = at-read-entries.read_entries-r.ensures in
       let a : read_count s.reads.now ≤ bad_read σ s.reads.now s.target.now s.ws.now s.cls.now =
-      rw (r.0, at-read-count.read_count.ensures.count) at at-else1.if-r-read_count.false in
+      rw (r.entry, at-read-count.read_count.ensures.count) at at-else1.if-r-read_count.false in
       let all = all-reads σ s.reads.now s.target.now s.ws.now s.cls.now a in
-      let marked = rw (r.0, all) at r.1.0 in
-      let offs = rw (r.0, all) at r.1.1 in
+      let marked = rw (r.entry, all) at r.classes in
+      let offs = rw (r.entry, all) at r.offsets in
       let k = at-call-entries.call_entries-c.ensures in
-      let bad = rw marked at k.0 in ap CallTable bad ∙ sym (call-6 σ (entries s.reads.now s.calls.now s.cargs.now) s.target.now s.ws.now s.cls.now a
+      let bad = rw marked at k.entry in ap CallTable bad ∙ sym (call-6 σ (entries s.reads.now s.calls.now s.cargs.now) s.target.now s.ws.now s.cls.now a
       (rw (bad, c.call_count.ensures.count) at c.if-c-call_count.true));
   classes = let at-call-entries = c.before.before.before.before.before.before in
       let at-else1 = at-call-entries.before.before.before in
@@ -56,12 +56,12 @@ returns-then-c-call_count c = record {
       let σ = sorts_of (edition s.second s.sorts.now) in
       let r = at-read-entries.read_entries-r.ensures in
       let a : read_count s.reads.now ≤ bad_read σ s.reads.now s.target.now s.ws.now s.cls.now =
-      rw (r.0, at-read-count.read_count.ensures.count) at at-else1.if-r-read_count.false in
+      rw (r.entry, at-read-count.read_count.ensures.count) at at-else1.if-r-read_count.false in
       let all = all-reads σ s.reads.now s.target.now s.ws.now s.cls.now a in
-      let marked = rw (r.0, all) at r.1.0 in
-      let offs = rw (r.0, all) at r.1.1 in
+      let marked = rw (r.entry, all) at r.classes in
+      let offs = rw (r.entry, all) at r.offsets in
       let k = at-call-entries.call_entries-c.ensures in
-      let bad = rw marked at k.0 in λ h. no_way (sym h);
+      let bad = rw marked at k.entry in λ h. no_way (sym h);
   offsets = let at-call-entries = c.before.before.before.before.before.before in
       let at-else1 = at-call-entries.before.before.before in
       let at-read-count = at-else1.before in
@@ -71,12 +71,12 @@ returns-then-c-call_count c = record {
       let σ = sorts_of (edition s.second s.sorts.now) in
       let r = at-read-entries.read_entries-r.ensures in
       let a : read_count s.reads.now ≤ bad_read σ s.reads.now s.target.now s.ws.now s.cls.now =
-      rw (r.0, at-read-count.read_count.ensures.count) at at-else1.if-r-read_count.false in
+      rw (r.entry, at-read-count.read_count.ensures.count) at at-else1.if-r-read_count.false in
       let all = all-reads σ s.reads.now s.target.now s.ws.now s.cls.now a in
-      let marked = rw (r.0, all) at r.1.0 in
-      let offs = rw (r.0, all) at r.1.1 in
+      let marked = rw (r.entry, all) at r.classes in
+      let offs = rw (r.entry, all) at r.offsets in
       let k = at-call-entries.call_entries-c.ensures in
-      let bad = rw marked at k.0 in λ h. no_way (sym h);
+      let bad = rw marked at k.entry in λ h. no_way (sym h);
 }
 
 pub returns : goal.returns
@@ -90,12 +90,12 @@ returns c = record {
       let σ = sorts_of (edition s.second s.sorts.now) in
       let r = at-read-entries.read_entries-r.ensures in
       let a : read_count s.reads.now ≤ bad_read σ s.reads.now s.target.now s.ws.now s.cls.now =
-      rw (r.0, at-read-count.read_count.ensures.count) at at-else1.if-r-read_count.false in
+      rw (r.entry, at-read-count.read_count.ensures.count) at at-else1.if-r-read_count.false in
       let all = all-reads σ s.reads.now s.target.now s.ws.now s.cls.now a in
-      let marked = rw (r.0, all) at r.1.0 in
-      let offs = rw (r.0, all) at r.1.1 in
+      let marked = rw (r.entry, all) at r.classes in
+      let offs = rw (r.entry, all) at r.offsets in
       let k = at-call-entries.call_entries-c.ensures in
-      let bad = rw marked at k.0 in
+      let bad = rw marked at k.entry in
       let b = rw (bad, c.call_count.ensures.count) at c.if-c-call_count.false in
       let every = bad ∙ all-calls s.calls.now s.cargs.now s.target.now s.ws.now _ b in sym (tables-good σ (entries s.reads.now s.calls.now s.cargs.now) s.target.now s.ws.now s.cls.now a b);
   classes = let at-call-entries = c.before.before.before.before.before.before in
@@ -107,14 +107,14 @@ returns c = record {
       let σ = sorts_of (edition s.second s.sorts.now) in
       let r = at-read-entries.read_entries-r.ensures in
       let a : read_count s.reads.now ≤ bad_read σ s.reads.now s.target.now s.ws.now s.cls.now =
-      rw (r.0, at-read-count.read_count.ensures.count) at at-else1.if-r-read_count.false in
+      rw (r.entry, at-read-count.read_count.ensures.count) at at-else1.if-r-read_count.false in
       let all = all-reads σ s.reads.now s.target.now s.ws.now s.cls.now a in
-      let marked = rw (r.0, all) at r.1.0 in
-      let offs = rw (r.0, all) at r.1.1 in
+      let marked = rw (r.entry, all) at r.classes in
+      let offs = rw (r.entry, all) at r.offsets in
       let k = at-call-entries.call_entries-c.ensures in
-      let bad = rw marked at k.0 in
+      let bad = rw marked at k.entry in
       let b = rw (bad, c.call_count.ensures.count) at c.if-c-call_count.false in
-      let every = bad ∙ all-calls s.calls.now s.cargs.now s.target.now s.ws.now _ b in λ h. k.1.0 ∙ rw (marked, every);
+      let every = bad ∙ all-calls s.calls.now s.cargs.now s.target.now s.ws.now _ b in λ h. k.classes ∙ rw (marked, every);
   offsets = let at-call-entries = c.before.before.before.before.before.before in
       let at-else1 = at-call-entries.before.before.before in
       let at-read-count = at-else1.before in
@@ -124,12 +124,12 @@ returns c = record {
       let σ = sorts_of (edition s.second s.sorts.now) in
       let r = at-read-entries.read_entries-r.ensures in
       let a : read_count s.reads.now ≤ bad_read σ s.reads.now s.target.now s.ws.now s.cls.now =
-      rw (r.0, at-read-count.read_count.ensures.count) at at-else1.if-r-read_count.false in
+      rw (r.entry, at-read-count.read_count.ensures.count) at at-else1.if-r-read_count.false in
       let all = all-reads σ s.reads.now s.target.now s.ws.now s.cls.now a in
-      let marked = rw (r.0, all) at r.1.0 in
-      let offs = rw (r.0, all) at r.1.1 in
+      let marked = rw (r.entry, all) at r.classes in
+      let offs = rw (r.entry, all) at r.offsets in
       let k = at-call-entries.call_entries-c.ensures in
-      let bad = rw marked at k.0 in
+      let bad = rw marked at k.entry in
       let b = rw (bad, c.call_count.ensures.count) at c.if-c-call_count.false in
-      let every = bad ∙ all-calls s.calls.now s.cargs.now s.target.now s.ws.now _ b in λ h. k.1.1 ∙ rw (offs, every);
+      let every = bad ∙ all-calls s.calls.now s.cargs.now s.target.now s.ws.now _ b in λ h. k.offsets ∙ rw (offs, every);
 }

@@ -4,7 +4,6 @@ use mathlib.Core.Bool.{Bool, true}
 use mathlib.Core.List.{List}
 use native.Mathlib.Omega.{arith}
 use borrow.Author.Rules.{rules}
-use borrow.Author.Tests.{not-false}
 use lib.ListN.{length, get_or}
 use Rattle.lowering.specs.Tables.{entry_count}
 use Rattle.entries.specs.Entries.{good}
@@ -70,7 +69,7 @@ returns-then-not-entry_good c =
 
 -- the entry is good: it is whole, and its variable has a place in both lists
 is-good : (c : goal.Else-not-entry_good) → test (passed c) (passed c).loop-off.cls (passed c).loop-off.k ≡ true
-is-good c = sym c.entry_good.ensures.test ∙ not-false _ c.if-not-entry_good.false
+is-good c = sym c.entry_good.ensures.test ∙ c.if-not-entry_good.false
 
 fits : (c : goal.Else-not-entry_good)
     → let s = (start (passed c)).args in

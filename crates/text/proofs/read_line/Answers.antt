@@ -31,7 +31,7 @@ returns-then-line-t c = record {
       let a = c.args in
       let h : l.n < length a.out.now = omega arith in
       let t = c.next_word-t in
-      let r : l.n + 1 ≤ length (set l.out l.n t.result.value) = simp length-set (omega arith) in words_last a.line.now l.at l.n _ l.out h t.result t.ensures.0 c.if-t-eq0.false l.invariant.2
+      let r : l.n + 1 ≤ length (set l.out l.n t.result.value) = simp length-set (omega arith) in words_last a.line.now l.at l.n _ l.out h t.result t.ensures.word.0 c.if-t-eq0.false l.invariant.2
       c.if-line-t.true ∙ sym l.invariant.3;
 }
 
@@ -42,7 +42,7 @@ loop-n-preserved c =
     let h : l.n < length a.out.now = omega arith in
     let t = c.next_word-t in
     let more =
-    words_more a.line.now l.at l.n _ l.out h t.result t.ensures.0 c.if-t-eq0.false l.invariant.2 c.if-line-t.false in
+    words_more a.line.now l.at l.n _ l.out h t.result t.ensures.word.0 c.if-t-eq0.false l.invariant.2 c.if-line-t.false in
     (c.if-line-t.false, omega arith, simp length-set l.invariant.2, l.invariant.3 ∙ more)
 
 pub returns : goal.returns

@@ -4,7 +4,6 @@ use mathlib.Core.Bool.{true, false}
 use Prim.Native.Nat.{ℕ, ◌≤◌}
 use mathlib.Core.List.{List, [], ◌∷◌}
 use native.Mathlib.Omega.{arith}
-use borrow.Author.Tests.{not-true, not-false}
 use lib.ListN.{length, replicate, take}
 use lib.Seq.{length-take-le}
 use Rattle.sorts.specs.Sorts.{plain}
@@ -104,7 +103,7 @@ abbrev widthed : goal.Else-not-is_accepted → goal.After-target_widths-a
 widthed c = c.before.before.before.before
 
 rows : (c : goal.Else-not-is_accepted) → is_accepted (rows-answer (widthed c)) ≡ true
-rows c = rw (answer (widthed c)) at (sym c.is_accepted.ensures.test ∙ not-false _ c.if-not-is_accepted.false)
+rows c = rw (answer (widthed c)) at (sym c.is_accepted.ensures.test ∙ c.if-not-is_accepted.false)
 
 front : (c : goal.Else-not-is_accepted) → take (counted (widthed c)).row_count-n.result (widthed c).target_widths-a.new.ws ≡ all-widths (widthed c)
 front c =
@@ -124,7 +123,7 @@ returns-then-not-is_accepted c = record {
   outcome =
       let then4 = c.before.before.before.before in
       let w = then4.before.before.before.before in
-      let refused = rw (answer w) at (sym then4.is_accepted.ensures.test ∙ not-true _ then4.if-not-is_accepted.true) in
+      let refused = rw (answer w) at (sym then4.is_accepted.ensures.test ∙ then4.if-not-is_accepted.true) in
       rw (widths-refused (target w) (bits w) (ws w) _ _ w.target_widths-a.ensures.outcome (whole w) (room w) refused, c.clear.ensures.zeros)
       (ap (λ (a : Answer). result_of a (replicate (length (ws w)) 0 ∷ replicate (length (vs w)) 0 ∷ [])) (answer w)
       ∙ sym (values-rows (target w) (bits w) (given w) (ws w) (vs w) (whole w) (room w) (room-too w) refused));
@@ -143,7 +142,7 @@ returns-then-not-is_accepted-2 c = record {
       let then5 = at-clear2.before.before in
       let g = then5.before.before in
       let w = widthed (passed g) in
-      let refused = rw (given_is g) at (sym then5.is_accepted-2.ensures.test ∙ not-true _ then5.if-not-is_accepted-2.true) in
+      let refused = rw (given_is g) at (sym then5.is_accepted-2.ensures.test ∙ then5.if-not-is_accepted-2.true) in
       rw (at-clear2.clear-then-not-is_accepted-2.ensures.zeros, w.target_widths-a.auto.ws, c.clear-then-not-is_accepted-2-2.ensures.zeros, given_is g)
       (sym (values-given (target w) (bits w) (given w) (ws w) (vs w) (whole w) (room w) (room-too w) (rows (passed g)) refused));
 }
@@ -155,7 +154,7 @@ answered c = c.before.before
 words : (c : goal.Else-not-is_accepted-2)
     → is_accepted (given_answer (target (widthed (passed (answered c)))) (all-widths (widthed (passed (answered c))))
     (given (widthed (passed (answered c))))) ≡ true
-words c = rw (given_is (answered c)) at (sym c.is_accepted-2.ensures.test ∙ not-false _ c.if-not-is_accepted-2.false)
+words c = rw (given_is (answered c)) at (sym c.is_accepted-2.ensures.test ∙ c.if-not-is_accepted-2.false)
 
 pub slice_bounds-evaluate-end-2 : goal.slice_bounds-evaluate-end-2
 slice_bounds-evaluate-end-2 c =
@@ -182,6 +181,6 @@ returns c = record {
       ap₂ (λ (k l : List ℕ). result_of Accepted (k ∷ l ∷ []))
       (widths-accepted (target w) (bits w) (ws w) _ _ w.target_widths-a.ensures.outcome (whole w) (room w) (rows p))
       (c.clear_from.ensures.zeros
-      ∙ values-list (target w) (bits w) (given w) (vs w) _ _ _ (count w) (ap length (front p) ∙ many w) v.auto.1.1.1.1.0 v.ensures)
+      ∙ values-list (target w) (bits w) (given w) (vs w) _ _ _ (count w) (ap length (front p) ∙ many w) v.auto.vs v.ensures.list)
       ∙ sym (values-accepted (target w) (bits w) (given w) (ws w) (vs w) (whole w) (room w) (room-too w) (rows p) (words else5));
 }

@@ -7,8 +7,8 @@ use Rattle.wf.proofs.graph_wf.Goals as goal
 
 pub parts_wf-requires : goal.parts_wf-requires
 parts_wf-requires c = record {
-  good = let p = c.requires in rw c.if-second.true at p.0;
-  g_in_bounds = let p = c.requires in p.1;
+  good = let p = c.requires in rw c.if-second.true at p.good;
+  g_in_bounds = let p = c.requires in p.g_in_bounds;
 }
 
 pub returns-then-second : goal.returns-then-second
@@ -20,6 +20,6 @@ returns c =
     let e = c.row_count-n.ensures.count in
     let told = c.rows_wf.ensures in
     let (reached, stops) =
-    told.1 plain s.ws.now (λ i h k t. (refl, refl)) (at-start plain s.graph s.nbits s.side.now s.g.now s.ws.now) in
+    told.part plain s.ws.now (λ i h k t. (refl, refl)) (at-start plain s.graph s.nbits s.side.now s.g.now s.ws.now) in
     rw c.if-second.false
-    (at-stop _ _ _ _ _ _ _ _ reached (omega (arith, e, told.0.1)) (λ h. stops (omega (arith, e, h))))
+    (at-stop _ _ _ _ _ _ _ _ reached (omega (arith, e, told.place.1)) (λ h. stops (omega (arith, e, h))))

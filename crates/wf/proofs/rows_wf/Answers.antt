@@ -83,7 +83,7 @@ width_is c σ base one reached =
     let row = c.row-r in
     ap capped c.line_width-w.ensures.width
     ∙ line-good (every s.sort.index s.sort.cell) s.graph s.nbits s.side.now s.g.now l.i (take l.i l.ws) s.t1
-    row.result (entry c).requires.lines_value row.ensures (below c.before.before.before)
+    row.result (entry c).requires.lines_value row.ensures.row (below c.before.before.before)
     ∙ part-width σ s.graph s.nbits s.side.now s.g.now s.from s.to s.sort.index s.sort.cell l.i (take l.i l.ws)
     one l.inv.0 c.loop-i-test.true
     ∙ ap (good_width σ s.graph s.nbits s.side.now s.g.now l.i) (ap (take l.i) reached.list ∙ build-front _ l.i _)

@@ -3,7 +3,6 @@ use Prim.Native.Nat.{◌≤◌}
 use mathlib.Core.Path.{◌≡◌, ◌∙◌, sym, ap}
 use mathlib.Core.Bool.{false}
 use native.Mathlib.Omega.{arith}
-use borrow.Author.Tests.{not-true, not-false}
 use lib.ListN.{length}
 use Rattle.answers.specs.declared.Answer.{Answer}
 use Rattle.lists.proofs.Choice.{no_way}
@@ -48,11 +47,11 @@ room c = rw c.row_count.ensures.count at c.if-ws-row_count.false
 pub refusal-requires : goal.refusal-requires
 refusal-requires c = record {
   stop_bound = let then3 = c.before.before.before.before in
-      let no = sym then3.is_accepted.ensures.test ∙ not-true _ then3.if-not-is_accepted.true in omega arith;
+      let no = sym then3.is_accepted.ensures.test ∙ then3.if-not-is_accepted.true in omega arith;
   by_index = let then3 = c.before.before.before.before in
-      let no = sym then3.is_accepted.ensures.test ∙ not-true _ then3.if-not-is_accepted.true in λ j h. absurd (omega arith);
+      let no = sym then3.is_accepted.ensures.test ∙ then3.if-not-is_accepted.true in λ j h. absurd (omega arith);
   stop_bound_2 = let then3 = c.before.before.before.before in
-      let no = sym then3.is_accepted.ensures.test ∙ not-true _ then3.if-not-is_accepted.true in λ e. no_way (sym e ∙ no);
+      let no = sym then3.is_accepted.ensures.test ∙ then3.if-not-is_accepted.true in λ e. no_way (sym e ∙ no);
 }
 
 pub returns-then-not-is_accepted : goal.returns-then-not-is_accepted
@@ -62,7 +61,7 @@ returns-then-not-is_accepted c = record {
       let then3 = at_clear.before.before in
       let table = then3.before.before in
       let s = (entry table).args in
-      let no = sym (rw table.sort_answer-sort.ensures.answer at then3.is_accepted.ensures.test) ∙ not-true _ then3.if-not-is_accepted.true in
+      let no = sym (rw table.sort_answer-sort.ensures.answer at then3.is_accepted.ensures.test) ∙ then3.if-not-is_accepted.true in
       rw at_clear.clear.ensures.zeros
       (sym (widths-28 (of table) s.graph s.g.now s.bits.now s.side.now s.ws.now (whole table) (room table) no 0 c.refusal.result
       (c.refusal.ensures.answer ∙ ap (λ (a : Answer). rows_answer_by a s.graph s.g.now s.bits.now 0) table.sort_answer-sort.ensures.answer)));
@@ -71,7 +70,7 @@ returns-then-not-is_accepted c = record {
 pub row_widths-requires : goal.row_widths-requires
 row_widths-requires c = record {
   good = let else3 = c.before in
-      let table = else3.before.before in sym (rw table.sort_answer-sort.ensures.answer at else3.is_accepted.ensures.test) ∙ not-false _ else3.if-not-is_accepted.false;
+      let table = else3.before.before in sym (rw table.sort_answer-sort.ensures.answer at else3.is_accepted.ensures.test) ∙ else3.if-not-is_accepted.false;
   g_in_bounds = let else3 = c.before in
       let table = else3.before.before in room table;
 }
@@ -82,7 +81,7 @@ returns c = record {
       let else3 = c.before.before.before.before in
       let table = else3.before.before in
       let s = (entry table).args in
-      let yes = sym (rw table.sort_answer-sort.ensures.answer at else3.is_accepted.ensures.test) ∙ not-false _ else3.if-not-is_accepted.false in
+      let yes = sym (rw table.sort_answer-sort.ensures.answer at else3.is_accepted.ensures.test) ∙ else3.if-not-is_accepted.false in
       c.row_widths.ensures.outcome
       ∙ sym (widths-sorted (of table) s.graph s.g.now s.bits.now s.side.now s.ws.now (whole table) (room table) yes);
 }

@@ -32,7 +32,7 @@ refusal-requires c = record {
       let at-graph-wf = then1.before.before.before in
       let s = (entry at-graph-wf).args in
       let w = at-graph-wf.graph_wf-stop in
-      let before = rw at-graph-wf.before.before.row_count.ensures at then1.if-stop-n.true in λ j h. stop-good (sorts at-graph-wf) s.graph (length s.bits.now) s.side.now s.g.now j (rw w.ensures.0 at h);
+      let before = rw at-graph-wf.before.before.row_count.ensures at then1.if-stop-n.true in λ j h. stop-good (sorts at-graph-wf) s.graph (length s.bits.now) s.side.now s.g.now j (rw w.ensures.row at h);
   stop_bound_2 = let then1 = c.before.before.before.before in
       let at-graph-wf = then1.before.before.before in
       let s = (entry at-graph-wf).args in
@@ -48,9 +48,9 @@ returns-then-stop-n c = record {
       let at-graph-wf = then1.before.before.before in
       let s = (entry at-graph-wf).args in
       let w = at-graph-wf.graph_wf-stop in
-      rw (c.refusal.ensures.answer, w.ensures.0, at_clear.clear.ensures.zeros, w.auto.1.1.1.1.1.1.0)
+      rw (c.refusal.ensures.answer, w.ensures.row, at_clear.clear.ensures.zeros, w.auto.ws)
       (sym (widths-stop (sorts at-graph-wf) s.graph s.g.now s.bits.now s.side.now s.ws.now
-      (rw (w.ensures.0, at-graph-wf.before.before.row_count.ensures) at then1.if-stop-n.true)));
+      (rw (w.ensures.row, at-graph-wf.before.before.row_count.ensures) at then1.if-stop-n.true)));
 }
 
 pub returns-then-bit-bits : goal.returns-then-bit-bits
@@ -63,9 +63,9 @@ returns-then-bit-bits c = record {
       let at-graph-wf = else1.before.before.before in
       let s = (entry at-graph-wf).args in
       let w = at-graph-wf.graph_wf-stop in
-      rw (c.graph_number.ensures.number, at-bad-bit.bad_bit-bit.ensures.position, at-clear2.clear-then-bit-bits.ensures.zeros, w.auto.1.1.1.1.1.1.0)
+      rw (c.graph_number.ensures.number, at-bad-bit.bad_bit-bit.ensures.position, at-clear2.clear-then-bit-bits.ensures.zeros, w.auto.ws)
       (sym (widths-17 (sorts at-graph-wf) s.graph s.g.now s.bits.now s.side.now s.ws.now
-      (rw (w.ensures.0, at-graph-wf.before.before.row_count.ensures) at else1.if-stop-n.false)
+      (rw (w.ensures.row, at-graph-wf.before.before.row_count.ensures) at else1.if-stop-n.false)
       (rw at-bad-bit.bad_bit-bit.ensures.position at then2.if-bit-bits.true)));
 }
 
@@ -81,10 +81,10 @@ returns c = record {
       let count = at-graph-wf.before.before.row_count.ensures in
       let w = at-graph-wf.graph_wf-stop in
       let most = first-le (row_stops σ s.graph (length s.bits.now) s.side.now s.g.now) (row_count s.graph s.g.now) in
-      let all : w.result ≡ at-graph-wf.before.before.row_count.result = omega (arith, w.ensures.0, most, count) in
+      let all : w.result ≡ at-graph-wf.before.before.row_count.result = omega (arith, w.ensures.row, most, count) in
       ap (λ (l : List ℕ). result_of Accepted (l ∷ [])) (c.clear_from.ensures.zeros
-      ∙ accepted-list σ s.graph (length s.bits.now) s.g.now s.side.now s.ws.now _ _ _ count all w.auto.1.1.1.1.1.1.0
-      w.ensures.1)
-      ∙ sym (widths-accepted σ s.graph s.g.now s.bits.now s.side.now s.ws.now (rw (w.ensures.0, count) at else1.if-stop-n.false)
+      ∙ accepted-list σ s.graph (length s.bits.now) s.g.now s.side.now s.ws.now _ _ _ count all w.auto.ws
+      w.ensures.list)
+      ∙ sym (widths-accepted σ s.graph s.g.now s.bits.now s.side.now s.ws.now (rw (w.ensures.row, count) at else1.if-stop-n.false)
       (rw at-bad-bit.bad_bit-bit.ensures.position at else2.if-bit-bits.false));
 }
