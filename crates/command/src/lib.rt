@@ -1,59 +1,44 @@
 // The programs verdict and strict_verdict: a book from the file that the argument names, or from standard input, and its line on standard output.
 #![tactic(auto)]
 
-use libc::{STDERR_FILENO, STDIN_FILENO, STDOUT_FILENO};
+use std::io::{self, Read, Write};
+use std::{env, fs};
 
 // One byte more than the longest book is read, so that a longer one is seen.
-fn print_verdict(strict: bool, fd: i32) {
+fn print_verdict<R: Read>(rt: &impl Print, strict: bool, input: &mut R) -> io::Result<()> {
     let mut buf = [0u8; 65537];
-    let n = io::read_full(fd, &mut buf);
+    let n = reading::read_full(input, &mut buf);
     let mut out = [0u8; 71];
     let k = printed::verdict_line(strict, &buf[..n], &mut out);
-    io::write_all(STDOUT_FILENO, &out[..k]);
+    io::writer(rt).write_all(&out[..k])
 }
 
-// What went wrong last, behind the program's name.
-fn fail(strict: bool) {
+// What went wrong, behind the name of the file.
+fn print_file_verdict(rt: &HostRuntime, strict: bool, path: &str) -> io::Result<()> {
+    match fs::open(rt, path) {
+        Ok(file) => {
+            let mut file = file;
+            print_verdict(rt, strict, &mut file)
+        }
+        Err(error) => eprintln!(rt; "{path}: {error}"),
+    }
+}
+
+fn print_usage(rt: &impl Eprint, strict: bool) -> io::Result<()> {
     if strict {
-        os::fail(b"strict_verdict");
-        return;
+        return rt.eprintln("usage: strict_verdict [BOOK]");
     }
-    os::fail(b"verdict");
+    rt.eprintln("usage: verdict [BOOK]")
 }
 
-fn print_file_verdict(strict: bool) {
-    let mut path = io::buffer();
-    let n = os::arg(1, &mut path);
-    if os::errno() != 0 {
-        fail(strict);
-        return;
+pub fn run(rt: &HostRuntime, strict: bool) -> io::Result<()> {
+    let mut args = env::args(rt)?;
+    let _program = args.next();
+    match args.next() {
+        None => print_verdict(rt, strict, &mut rt.reader()),
+        Some(path) => match args.next() {
+            None => print_file_verdict(rt, strict, path.as_str()),
+            Some(_) => print_usage(rt, strict),
+        },
     }
-    let fd = os::open_read(&path[..n]);
-    if fd < 0 {
-        os::fail(&path[..n]);
-        return;
-    }
-    print_verdict(strict, fd);
-    libc::close(fd);
-}
-
-fn print_usage(strict: bool) {
-    if strict {
-        io::write_all(STDERR_FILENO, b"usage: strict_verdict [BOOK]\n");
-        return;
-    }
-    io::write_all(STDERR_FILENO, b"usage: verdict [BOOK]\n");
-}
-
-pub fn run(strict: bool) {
-    let count = os::arg_count();
-    if count < 2 {
-        print_verdict(strict, STDIN_FILENO);
-        return;
-    }
-    if count == 2 {
-        print_file_verdict(strict);
-        return;
-    }
-    print_usage(strict);
 }

@@ -2,12 +2,12 @@
 // Prints the first disagreeing lines, the number of cases and the number of disagreements.
 #![tactic(auto)]
 
-ghost use Rattle.std.specs.Prelude.{◌≡◌, true, ◌+◌, ◌≤◌, ◌<◌, length};
+ghost use Rattle.std.specs.Prelude.{◌≡◌, true, ◌+◌, ◌≤◌, ◌<◌, length, IfOk};
 ghost use Rattle.text.specs.Line.{words_in};
 ghost use Rattle.cases.specs.Case.{room};
 ghost use Rattle.agreement.specs.Agrees.{Agrees};
 
-use libc::{STDIN_FILENO, STDOUT_FILENO};
+use std::io;
 
 // Where the next line starts, how many cases are behind it, and how many of them disagree.
 #[derive(Clone, Copy)]
@@ -17,10 +17,8 @@ struct Count {
     wrong: usize,
 }
 
-fn print_number(label: &[u8], n: usize) {
-    io::write_all(STDOUT_FILENO, label);
-    io::print_decimal(STDOUT_FILENO, n as u64);
-    io::write_all(STDOUT_FILENO, b"\n");
+fn print_number(rt: &impl Print, label: &str, n: usize) -> io::Result<()> {
+    println!(rt; "{label} {n}")
 }
 
 // A malformed line has no words, and so does not agree.
@@ -33,46 +31,47 @@ fn line_agrees(line: &[u8]) -> bool
 }
 
 // Names a disagreeing line, if it is among the first ten.
-fn report(number: usize, wrong: usize) {
+fn report(rt: &impl Print, number: usize, wrong: usize) -> io::Result<()> {
     if wrong <= 10 {
-        print_number(b"line ", number);
+        print_number(rt, "line", number)?;
     }
+    Ok(())
 }
 
 // The count after one more line. An empty line at the end of the text is no case.
-fn replay_line(text: &[u8], c: Count) -> Count
+fn replay_line(rt: &impl Print, text: &[u8], c: Count) -> io::Result<Count>
     requires { (c.at < length text.now) × (c.cases ≤ c.at) × (c.wrong ≤ c.cases) }
-    ensures bounds { (c.at < result.at) × (result.at ≤ length text.now + 1) × (result.cases ≤ result.at) × (result.wrong ≤ result.cases) }
+    ensures bounds { IfOk result (λ r. (c.at < r.at) × (r.at ≤ length text.now + 1) × (r.cases ≤ r.at) × (r.wrong ≤ r.cases)) }
 {
     let from = c.at;
     let end = text::line_end(text, from);
     let next = end + 1;
     if end == from {
         if text.len() <= next {
-            return Count {
+            return Ok(Count {
                 at: next,
                 cases: c.cases,
                 wrong: c.wrong,
-            };
+            });
         }
     }
     if line_agrees(&text[from..end]) {
-        return Count {
+        return Ok(Count {
             at: next,
             cases: c.cases + 1,
             wrong: c.wrong,
-        };
+        });
     }
-    report(c.cases + 1, c.wrong + 1);
-    Count {
+    report(rt, c.cases + 1, c.wrong + 1)?;
+    Ok(Count {
         at: next,
         cases: c.cases + 1,
         wrong: c.wrong + 1,
-    }
+    })
 }
 
-fn replay(text: &[u8]) -> Count
-    ensures bounds { (result.cases ≤ length text.now + 1) × (result.wrong ≤ result.cases) }
+fn replay(rt: &impl Print, text: &[u8]) -> io::Result<Count>
+    ensures bounds { IfOk result (λ r. (r.cases ≤ length text.now + 1) × (r.wrong ≤ r.cases)) }
 {
     let mut c = Count {
         at: 0,
@@ -80,9 +79,9 @@ fn replay(text: &[u8]) -> Count
         wrong: 0,
     };
     while c.at < text.len() {
-        c = replay_line(text, c);
+        c = replay_line(rt, text, c)?;
     }
-    c
+    Ok(c)
 }
 
 // A text that fills the buffer may have been cut, which is one disagreement more.
@@ -92,10 +91,10 @@ fn cut(n: usize) -> usize
     if n < 393216 { 0 } else { 1 }
 }
 
-fn main() {
+fn main(rt: HostRuntime) -> io::Result<()> {
     let mut buf = [0u8; 393216];
-    let n = io::read_full(STDIN_FILENO, &mut buf);
-    let c = replay(&buf[..n]);
-    print_number(b"cases ", c.cases);
-    print_number(b"disagreements ", c.wrong + cut(n));
+    let n = reading::read_full(&mut rt.reader(), &mut buf);
+    let c = replay(&rt, &buf[..n])?;
+    print_number(&rt, "cases", c.cases)?;
+    print_number(&rt, "disagreements", c.wrong + cut(n))
 }
