@@ -1,4 +1,4 @@
-// The operations over numbers and slices, for C and Rust (include/gilfrunt.h).
+// The operations over numbers and slices; gilfrunt_c exports them for C and Rust (include/gilfrunt.h).
 #![tactic(auto)]
 
 ghost use Rattle.std.specs.Prelude.{◌≡◌, [], ◌∷◌};
@@ -18,8 +18,7 @@ ghost use Rattle.soundness.specs.Choices.{SameChoices, SameStrictChoices};
 use answers::Words;
 use book::Stretch;
 
-#[unsafe(no_mangle)]
-pub extern "C" fn gilfrunt_source_widths(
+pub fn gilfrunt_source_widths(
     source: &[u64],
     bits: &[u8],
     side: &[u64],
@@ -34,8 +33,7 @@ pub extern "C" fn gilfrunt_source_widths(
 }
 
 // With a sort table, as the next functions that have `_with_sorts` (02, 2.9).
-#[unsafe(no_mangle)]
-pub extern "C" fn gilfrunt_source_widths_with_sorts(
+pub fn gilfrunt_source_widths_with_sorts(
     source: &[u64],
     bits: &[u8],
     side: &[u64],
@@ -49,23 +47,20 @@ pub extern "C" fn gilfrunt_source_widths_with_sorts(
     told::source_widths(source, bits, side, true, sorts, widths)
 }
 
-#[unsafe(no_mangle)]
-pub extern "C" fn gilfrunt_target_widths(target: &[u64], bits: &[u8], widths: &mut [u64]) -> Words
+pub fn gilfrunt_target_widths(target: &[u64], bits: &[u8], widths: &mut [u64]) -> Words
     ensures outcome { told result (widths.new ∷ []) ≡ told_of (target_widths target.now bits.now
         widths.old) }
 {
     told::target_widths(target, bits, widths)
 }
 
-#[unsafe(no_mangle)]
-pub extern "C" fn gilfrunt_roots(widths: &[u64], roots: &[u64]) -> Words
+pub fn gilfrunt_roots(widths: &[u64], roots: &[u64]) -> Words
     ensures answer { result ≡ words_of (roots_answer widths.now roots.now) }
 {
     told::roots(widths, roots)
 }
 
-#[unsafe(no_mangle)]
-pub extern "C" fn gilfrunt_values(
+pub fn gilfrunt_values(
     target: &[u64],
     bits: &[u8],
     given: &[u64],
@@ -79,8 +74,7 @@ pub extern "C" fn gilfrunt_values(
     told::values(target, bits, given, widths, numbers)
 }
 
-#[unsafe(no_mangle)]
-pub extern "C" fn gilfrunt_check(
+pub fn gilfrunt_check(
     source: &[u64],
     ebits: &[u8],
     eside: &[u64],
@@ -115,8 +109,7 @@ pub extern "C" fn gilfrunt_check(
     )
 }
 
-#[unsafe(no_mangle)]
-pub extern "C" fn gilfrunt_strict_check(
+pub fn gilfrunt_strict_check(
     source: &[u64],
     ebits: &[u8],
     eside: &[u64],
@@ -151,8 +144,7 @@ pub extern "C" fn gilfrunt_strict_check(
     )
 }
 
-#[unsafe(no_mangle)]
-pub extern "C" fn gilfrunt_check_with_sorts(
+pub fn gilfrunt_check_with_sorts(
     source: &[u64],
     ebits: &[u8],
     eside: &[u64],
@@ -188,8 +180,7 @@ pub extern "C" fn gilfrunt_check_with_sorts(
     )
 }
 
-#[unsafe(no_mangle)]
-pub extern "C" fn gilfrunt_strict_check_with_sorts(
+pub fn gilfrunt_strict_check_with_sorts(
     source: &[u64],
     ebits: &[u8],
     eside: &[u64],
@@ -225,23 +216,20 @@ pub extern "C" fn gilfrunt_strict_check_with_sorts(
     )
 }
 
-#[unsafe(no_mangle)]
-pub extern "C" fn gilfrunt_section_answer(book: &[u8], number: u64) -> Words
+pub fn gilfrunt_section_answer(book: &[u8], number: u64) -> Words
     ensures answer { result ≡ words_of (section_answer book.now number) }
 {
     told::section_answer(book, number)
 }
 
 // A reference cannot be returned to C, so the section comes as its place; place-is in the crate book says that it is the same stretch.
-#[unsafe(no_mangle)]
-pub extern "C" fn gilfrunt_section(book: &[u8], number: u64) -> Stretch
+pub fn gilfrunt_section(book: &[u8], number: u64) -> Stretch
     ensures place { result ≡ section_place book.now number }
 {
     book::section_place(book, number)
 }
 
-#[unsafe(no_mangle)]
-pub extern "C" fn gilfrunt_judge(
+pub fn gilfrunt_judge(
     book: &[u8],
     ws0: &mut [u64],
     ws1: &mut [u64],
@@ -259,8 +247,7 @@ pub extern "C" fn gilfrunt_judge(
     reported::judge(false, book, ws0, ws1, classes, entries, words)
 }
 
-#[unsafe(no_mangle)]
-pub extern "C" fn gilfrunt_strict_judge(
+pub fn gilfrunt_strict_judge(
     book: &[u8],
     ws0: &mut [u64],
     ws1: &mut [u64],
