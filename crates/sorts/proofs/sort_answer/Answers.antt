@@ -1,29 +1,22 @@
-use Prim.Native.Nat.{◌-◌}
 use mathlib.Core.Path.{sym, ◌∙◌}
-use mathlib.Core.Bool.{true}
 use native.Mathlib.Nat.{not-suc-le-zero}
 use native.Mathlib.Omega.{arith}
 use borrow.Author.Count.{below_more}
-use borrow.Author.Tests.{not-true, not-false}
-use Rattle.sorts.specs.Sorts.{sort_good}
 use Rattle.sorts.proofs.Sorts.{sort-bad, sort-none}
 use Rattle.sorts.proofs.sort_answer.Goals as goal
 
 pub returns-then-not-second : goal.returns-then-not-second
-returns-then-not-second c = record { answer = rw (not-true c.args.second c.if-not-second.true) }
+returns-then-not-second c = record { answer = rw c.if-not-second.true }
 
 pub loop-k-init : goal.loop-k-init
 loop-k-init c = (omega arith, λ j h. absurd (not-suc-le-zero h))
-
-pub overflow_mul-k : goal.overflow_mul-k
-overflow_mul-k c = omega (arith, c.loop-k.invariant.0, c.before.before.before.well-formed.1.0.0)
 
 pub returns-then-not-sort_good : goal.returns-then-not-sort_good
 returns-then-not-sort_good c = record {
   answer =
       let p = c.before.before.before in
       let s = p.args in
-      rw (not-false s.second p.if-not-second.false)
+      rw p.if-not-second.false
       (sym (sort-bad s.table.now p.loop-k.k (omega arith) (sym c.sort_good.ensures.test ∙ c.if-not-sort_good.true) p.loop-k.invariant.1));
 }
 
@@ -36,5 +29,5 @@ returns c = record {
   answer =
       let p = c.before in
       let s = p.args in
-      rw (not-false s.second p.if-not-second.false) (sym (sort-none s.table.now p.loop-k.k (omega arith) p.loop-k.invariant.1));
+      rw p.if-not-second.false (sym (sort-none s.table.now p.loop-k.k (omega arith) p.loop-k.invariant.1));
 }
