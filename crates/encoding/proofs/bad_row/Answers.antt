@@ -1,6 +1,5 @@
-use Prim.Native.Nat.{◌-◌}
-use mathlib.Core.Path.{sym}
-use mathlib.Core.Bool.{false}
+use mathlib.Core.Path.{sym, ap}
+use mathlib.Core.Bool.{not}
 use borrow.Author.Count.{below_more}
 use borrow.Author.Rules.{rules}
 use Rattle.lists.proofs.First.{first-at, first_past}
@@ -19,7 +18,7 @@ returns-then-not-row_good c = record {
       let s = c.args in
       let e = c.row_count-n.ensures.count in
       sym (first-at (row_bad s.graph s.g.now) _ _ (rw e at c.loop-i-test.true)
-      (rw c.row.ensures.row at (rw c.row_good.ensures.test at c.if-not-row_good.true))
+      (ap not (rw c.row.ensures.row at (rw c.row_good.ensures.test at c.if-not-row_good.true)))
       c.loop-i.invariant.1);
 }
 
@@ -27,7 +26,7 @@ pub loop-i-preserved : goal.loop-i-preserved
 loop-i-preserved c = (
   search rules,
   below_more _ _ c.loop-i.invariant.1
-      (rw c.row.ensures.row at (rw c.row_good.ensures.test at c.if-not-row_good.false)),
+      (ap not (rw c.row.ensures.row at (rw c.row_good.ensures.test at c.if-not-row_good.false))),
 )
 
 pub returns : goal.returns

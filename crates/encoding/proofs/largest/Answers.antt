@@ -1,4 +1,3 @@
-use Prim.Native.Nat.{◌-◌}
 use native.Mathlib.Nat.{not-suc-le-zero, le_trans}
 use native.Mathlib.Omega.{arith}
 use borrow.Author.Count.{below_more}
