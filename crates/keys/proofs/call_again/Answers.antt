@@ -1,7 +1,7 @@
 -- The rows, then the function, which an entry shares with itself. Assumes nothing.
 use mathlib.Core.Path.{◌≡◌, ◌∙◌, sym}
 use mathlib.Core.Bool.{true}
-use Rattle.keys.specs.Keys.{call_is, functions_agree}
+use Rattle.keys.specs.Keys.{functions_agree}
 use Rattle.keys.proofs.Order.{fails, passes, alone}
 use Rattle.keys.proofs.Keys.{function-self}
 use Rattle.keys.proofs.call_again.Goals as goal
@@ -9,20 +9,14 @@ use Rattle.keys.proofs.call_again.Goals as goal
 pub returns-then-not-call_is : goal.returns-then-not-call_is
 returns-then-not-call_is c = record { test = fails _ (sym c.call_is.ensures.test ∙ c.if-not-call_is.true) }
 
--- the rows agree
-rows : (c : goal.Else-not-call_is)
-    → let s = c.args in
-    call_is s.calls.now s.cargs.now s.ws.now s.off s.f s.s s.n s.w ≡ true
-rows c = sym c.call_is.ensures.test ∙ c.if-not-call_is.false
-
 pub returns-then-off-q : goal.returns-then-off-q
 returns-then-off-q c = record {
   test =
       let s = c.args in
       let own : functions_agree s.calls.now s.cargs.now s.ws.now s.off s.q ≡ true
       = rw c.if-off-q.true (function-self s.calls.now s.cargs.now s.ws.now s.q) in
-      sym own ∙ alone _ ∙ passes _ (rows c.before);
+      sym own ∙ alone _ ∙ passes _ (sym c.call_is.ensures.test ∙ c.if-not-call_is.false);
 }
 
 pub returns : goal.returns
-returns c = record { test = c.same_function.ensures.test ∙ alone _ ∙ passes _ (rows c.before.before) }
+returns c = record { test = c.same_function.ensures.test ∙ alone _ ∙ passes _ (sym c.call_is.ensures.test ∙ c.if-not-call_is.false) }

@@ -15,9 +15,7 @@ returns-then-calls-off-2 c = record { test = fails _ (ne_eqb _ _ c.if-calls-off-
 pub returns : goal.returns
 returns c = record {
   test =
-      let counted = c.before.before in
-      let s = counted.args in
-      ap (λ (z : ℕ). eqb z s.w) c.width_at.ensures.width ∙ alone _
-      ∙ passes _ (eq-eqb _ _ counted.if-calls-off-2.false)
-      ∙ passes _ (eq-eqb _ _ counted.before.before.if1.false);
+      ap (λ (z : ℕ). eqb z c.args.w) c.width_at.ensures.width ∙ alone _
+      ∙ passes _ (eq-eqb _ _ c.if-calls-off-2.false)
+      ∙ passes _ (eq-eqb _ _ c.if-calls-off.false);
 }

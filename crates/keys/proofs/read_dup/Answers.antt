@@ -1,12 +1,12 @@
-use Prim.Native.Nat.{ℕ, ◌≤◌, ◌+◌, ◌*◌, ◌-◌}
+use Prim.Native.Nat.{ℕ, ◌≤◌, ◌+◌, ◌*◌}
 use mathlib.Core.Path.{◌≡◌, ◌∙◌, sym}
-use mathlib.Core.Bool.{Bool, true}
+use mathlib.Core.Bool.{Bool, false}
 use native.Mathlib.Omega.{arith}
-use borrow.Author.Tests.{not-true, not-false}
 use Rattle.lowering.specs.Tables.{same_read}
 use Rattle.keys.proofs.Keys.{same-read-at, read-self}
 use Rattle.keys.proofs.Search.{searched-none, searched-more, goes_on, found}
 use Rattle.keys.proofs.read_dup.Goals as goal
+use Rattle.keys.proofs.read_dup.Goals.{In-loop-off}
 
 pub loop-off-init : goal.loop-off-init
 loop-off-init c = searched-none _ _ _
@@ -14,44 +14,36 @@ loop-off-init c = searched-none _ _ _
 pub read_is-requires : goal.read_is-requires
 read_is-requires c = let i = c.loop-off.invariant in omega (arith, i.1, i.2)
 
-abbrev entry : goal.In-loop-off → goal.Start
-entry c = c.before.before.before.before.before.before
+-- the entry at the offset has another key: a whole entry follows
+missed : (c : In-loop-off) → same_read c.args.reads.now c.loop-off.invariant.0 c.args.k ≡ false
+missed c =
+    let l = c.loop-off in
+    sym (c.read_is.ensures.test ∙ same-read-at c.args.reads.now l.off l.invariant.0 c.args.k l.invariant.1) ∙ c.loop-off-test.true
 
--- entry i has the key; entry k has it
-abbrev has_key : goal.Start → ℕ → Bool
-has_key p i = let s = p.args in same_read s.reads.now i s.k
-
-self : (p : goal.Start) → has_key p p.args.k ≡ true
-self p = let s = p.args in read-self s.reads.now s.k
-
--- what the call tests: the entry at the offset has the key
-test : (c : goal.After-read_is) → c.read_is.result ≡ has_key c.before.before.before.before.before c.loop-off.invariant.0
-test c =
+more : (c : In-loop-off) → c.loop-off.off + 3 ≤ c.args.k * 3
+more c =
     let s = c.args in
     let l = c.loop-off in
-    c.read_is.ensures.test ∙ same-read-at s.reads.now l.off l.invariant.0 s.k l.invariant.1
-
--- where it has not, a whole entry follows
-more : (c : goal.In-loop-off) → c.loop-off.off + 3 ≤ (entry c).args.k * 3
-more c =
-    let l = c.loop-off in
-    goes_on (has_key (entry c)) 3 (entry c).args.k (self (entry c)) l.off l.invariant (sym (test c.before) ∙ not-true _ c.loop-off-test.true)
+    goes_on (λ i. same_read s.reads.now i s.k) 3 s.k (read-self s.reads.now s.k) l.off l.invariant (missed c)
 
 pub overflow_add-off : goal.overflow_add-off
-overflow_add-off c = omega (arith, more c)
+overflow_add-off c = omega (arith, more (goal.at.overflow_add-off c).In-loop-off)
 
 pub loop-off-smaller : goal.loop-off-smaller
-loop-off-smaller c = omega (arith, more c)
+loop-off-smaller c = omega (arith, more (goal.at.loop-off-smaller c).In-loop-off)
 
 pub loop-off-preserved : goal.loop-off-preserved
 loop-off-preserved c =
+    let s = c.args in
     let l = c.loop-off in
-    searched-more (has_key (entry c)) 3 (entry c).args.k (self (entry c)) l.off l.invariant (sym (test c.before) ∙ not-true _ c.loop-off-test.true)
+    searched-more (λ i. same_read s.reads.now i s.k) 3 s.k (read-self s.reads.now s.k) l.off l.invariant
+    (missed (goal.at.loop-off-preserved c).In-loop-off)
 
 pub returns : goal.returns
 returns c = record {
   test =
-      let p = c.before.before.before.before.before.before in
+      let s = c.args in
       let l = c.loop-off in
-      found (has_key p) 3 p.args.k (self p) l.off l.invariant (omega arith) (sym (test c.before) ∙ not-false _ c.loop-off-test.false);
+      found (λ i. same_read s.reads.now i s.k) 3 s.k (read-self s.reads.now s.k) l.off l.invariant (omega arith)
+      (sym (c.read_is.ensures.test ∙ same-read-at s.reads.now l.off l.invariant.0 s.k l.invariant.1) ∙ c.loop-off-test.false);
 }

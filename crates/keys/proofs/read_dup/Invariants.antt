@@ -5,7 +5,7 @@ use Rattle.keys.proofs.Search.{Searched}
 use Rattle.keys.proofs.read_dup.Given as goal
 
 abbrev pub invariant-loop-off : goal.invariant-loop-off
-invariant-loop-off l = Searched (λ l. same_read l.reads l l.k) 3 l.k l.off
+invariant-loop-off l = Searched (λ i. same_read l.reads i l.k) 3 l.k l.off
 
 abbrev pub decreases-loop-off : goal.decreases-loop-off
 decreases-loop-off l = l.k * 3 - l.off

@@ -7,9 +7,10 @@ use Rattle.lists.proofs.Tests.{all_true}
 use Rattle.keys.specs.Keys.{function_is}
 use Rattle.keys.proofs.Order.{fails, passes, alone}
 use Rattle.keys.proofs.same_function.Goals as goal
+use Rattle.keys.proofs.same_function.Goals.{After-function_is}
 
 -- what the call tests
-alike : (c : goal.After-function_is)
+alike : (c : After-function_is)
     → let s = c.args in
     c.function_is.result
     ≡ function_is s.calls.now s.ws.now s.p (get_or s.calls.now (s.q + 1) 0) (get_or s.calls.now (s.q + 3) 0)
@@ -17,19 +18,19 @@ alike : (c : goal.After-function_is)
 alike c = c.function_is.ensures.test ∙ rw c.width_at-w.ensures.width
 
 pub returns-then-not-function_is : goal.returns-then-not-function_is
-returns-then-not-function_is c = record { test = fails _ (sym (alike c.before) ∙ c.if-not-function_is.true) }
+returns-then-not-function_is c = record {
+  test = fails _ (sym (alike (goal.at.returns-then-not-function_is c).After-function_is) ∙ c.if-not-function_is.true);
+}
 
 pub arg_widths_eq-requires : goal.arg_widths_eq-requires
 arg_widths_eq-requires c =
-    let told = c.before.before in
-    let start = told.before.before.before.before.before.before.before.before.before in
-    let s = start.args in
-    let (_, (e, _)) = all_true _ (sym (alike told.before) ∙ told.if-not-function_is.false) in
-    (rw (eqb-true (get_or s.calls.now (s.p + 3) 0) (get_or s.calls.now (s.q + 3) 0) e) at start.requires.args_at.0, start.requires.args_at.1)
+    let s = c.args in
+    let (_, (e, _)) = all_true _ (sym (alike (goal.at.arg_widths_eq-requires c).After-function_is) ∙ c.if-not-function_is.false) in
+    (rw (eqb-true (get_or s.calls.now (s.p + 3) 0) (get_or s.calls.now (s.q + 3) 0) e) at c.requires.args_at.0, c.requires.args_at.1)
 
 pub returns : goal.returns
 returns c = record {
   test =
-      let told = c.before.before.before in
-      c.arg_widths_eq.ensures.test ∙ alone _ ∙ passes _ (sym (alike told.before) ∙ told.if-not-function_is.false);
+      c.arg_widths_eq.ensures.test ∙ alone _
+      ∙ passes _ (sym (alike (goal.at.returns c).After-function_is) ∙ c.if-not-function_is.false);
 }
