@@ -1,5 +1,5 @@
 use Prim.Native.Nat.{◌-◌}
-use mathlib.Core.Path.{sym}
+use mathlib.Core.Path.{sym, ap}
 use mathlib.Core.Bool.{false, not}
 use native.Mathlib.Nat.{not-suc-le-zero}
 use native.Mathlib.Omega.{arith}
@@ -18,11 +18,11 @@ returns-then-not-root_leads c = record {
       let s = c.args in
       sym
       (first-at (λ j. not (leads s.map.now s.eroots.now s.troots.now j)) _ _ c.loop-k-test.true
-      (rw c.root_leads.ensures.test at c.if-not-root_leads.true) c.loop-k.invariant.1);
+      (ap not (rw c.root_leads.ensures.test at c.if-not-root_leads.true)) c.loop-k.invariant.1);
 }
 
 pub loop-k-preserved : goal.loop-k-preserved
-loop-k-preserved c = (omega arith, below_more _ _ c.loop-k.invariant.1 (rw c.root_leads.ensures.test at c.if-not-root_leads.false))
+loop-k-preserved c = (omega arith, below_more _ _ c.loop-k.invariant.1 (ap not (rw c.root_leads.ensures.test at c.if-not-root_leads.false)))
 
 pub returns : goal.returns
 returns c = record {
