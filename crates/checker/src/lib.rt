@@ -32,11 +32,11 @@ pub fn check(
     cls: &mut [u64],
     ent: &mut [u64],
 ) -> Answer
-    ensures* outcome { λ r. ⌜ result_of r (ws0.new ∷ ws1.new ∷ cls.new ∷ ent.new ∷ [])
+    ensures outcome { result_of result (ws0.new ∷ ws1.new ∷ cls.new ∷ ent.new ∷ [])
         ≡ check_by strict (lowering_in (edition second sorts.now) source.now ebits.now eside.now
         eroots.now map.now reads.now calls.now cargs.now target.now
         tbits.now troots.now)
-        ws0.old ws1.old cls.old ent.old ⌝ }
+        ws0.old ws1.old cls.old ent.old }
 {
     let a = forms::count_answer(
         source.len(),

@@ -17,8 +17,8 @@ use answers::Answer;
 // 15 and 18, with room for some words in each of the five lists.
 pub fn room_answer(book: &[u8], w0: usize, w1: usize, c: usize, e: usize, room: usize) -> Answer
     requires { Good book.now }
-    ensures* answer { λ r. ⌜ r ≡ and_then (first_refusal (count_answers (held book.now).source (held
-        book.now).target w0 w1 c e)) (refuse (ltb room (length (book_words book.now))) (WorkShort 5)) ⌝ }
+    ensures answer { result ≡ and_then (first_refusal (count_answers (held book.now).source (held book.now).target w0 w1 c e))
+        (refuse (ltb room (length (book_words book.now))) (WorkShort 5)) }
 {
     let a = forms::count_answer(
         bodies::word_count(book, 0),
@@ -42,7 +42,7 @@ pub fn room_answer(book: &[u8], w0: usize, w1: usize, c: usize, e: usize, room: 
 fn sorts_at<'a>(book: &[u8], words: &'a [u64]) -> &'a [u64]
     requires good { Good book.now }
     requires words_value { words.now ≡ loaded book.now (sections book.now) ++ drop (length (loaded book.now (sections book.now))) words.now }
-    ensures* table { λ r. ⌜ edition (is_second book.now) r.now ≡ edition_of book.now ⌝ }
+    ensures table { edition (is_second book.now) result.now ≡ edition_of book.now }
 {
     if book::is_second(book) {
         return bodies::list_at(book, words, 11);
@@ -62,8 +62,8 @@ pub fn check_loaded(
 ) -> Answer
     requires good { Good book.now }
     requires words_value { words.now ≡ loaded book.now (sections book.now) ++ drop (length (loaded book.now (sections book.now))) words.now }
-    ensures* outcome { λ r. ⌜ result_of r (ws0.new ∷ ws1.new ∷ cls.new ∷ ent.new ∷ [])
-        ≡ check_by strict (held book.now) ws0.old ws1.old cls.old ent.old ⌝ }
+    ensures outcome { result_of result (ws0.new ∷ ws1.new ∷ cls.new ∷ ent.new ∷ [])
+        ≡ check_by strict (held book.now) ws0.old ws1.old cls.old ent.old }
 {
     checker::check(
         strict,
