@@ -16,9 +16,9 @@ end_of-end-requires c = record {
 pub slice_bounds-result-end : goal.slice_bounds-result-end
 slice_bounds-result-end c =
     let b = c.args.book.now in
-    let h : c.end_of_lem.result ≤ length b =
-    rw c.end_of_lem.ensures ((good_book b c.requires.1).each _ c.requires.0).within in
+    let h : c.end_of-end.result ≤ length b =
+    rw c.end_of-end.ensures.value ((good_book b c.requires.1).each _ c.requires.0).within in
     h
 
 pub returns : goal.returns
-returns c = record { stretch = body_is _ _ _ _ c.before.before.start_of_lem.ensures c.before.end_of_lem.ensures }
+returns c = record { stretch = body_is _ _ _ _ c.start_of-start.ensures.value c.end_of-end.ensures.value }

@@ -7,9 +7,10 @@ use Rattle.contents.proofs.Editions.{sections-low, sections-high}
 use Rattle.book.proofs.Shape.{too_short, off-place, last_within, good-shape, over-second, over_first}
 use borrow.Author.Rules.{rules}
 use Rattle.book.proofs.book_answer.Goals as goal
+use Rattle.book.proofs.book_answer.Goals.{Else-book-n}
 
 -- past the second test the contents stand in the book
-long : (c : goal.Else-book-n) → (let b = c.args.book.now in contents b ≤ length b)
+long : (c : Else-book-n) → (let b = c.args.book.now in contents b ≤ length b)
 long c = omega (arith, c.if-book-n.false, c.sections-n.ensures.count)
 
 pub returns-then-book-lt176 : goal.returns-then-book-lt176
@@ -44,47 +45,39 @@ overflow_add-result c =
 pub returns-then-bad-n : goal.returns-then-bad-n
 returns-then-bad-n c = record {
   answer =
-      let t = c.before.before in
-      off-place t.args.book.now (long t) _ t.sections-n.ensures.count _ c.first_bad-bad.ensures.entry
+      off-place c.args.book.now (long (goal.at.returns-then-bad-n c).Else-book-n) _ c.sections-n.ensures.count _ c.first_bad-bad.ensures.entry
       c.if-bad-n.true;
 }
 
 pub overflow_sub-n : goal.overflow_sub-n
-overflow_sub-n c =
-    let t = c.before.before in
-    omega (arith, sections-low t.args.book.now, t.sections-n.ensures.count)
+overflow_sub-n c = omega (arith, sections-low c.args.book.now, c.sections-n.ensures.count)
 
 pub end_of-requires : goal.end_of-requires
-end_of-requires c = record {
-  i_bound = let t = c.before.before in
-      let b = t.args.book.now in (omega (arith, sections-low b, t.sections-n.ensures.count), long t);
-  i_in_bounds = let t = c.before.before in
-      let b = t.args.book.now in last_within b (long t) _ t.sections-n.ensures.count _ c.first_bad-bad.ensures.entry c.if-bad-n.false;
-}
+end_of-requires c =
+    let b = c.args.book.now in
+    let l : contents b ≤ length b = long (goal.at.end_of-requires c).Else-book-n in
+    record {
+      i_bound = (omega (arith, sections-low b, c.sections-n.ensures.count), l);
+      i_in_bounds = last_within b l _ c.sections-n.ensures.count _ c.first_bad-bad.ensures.entry c.if-bad-n.false;
+    }
 
 pub returns-then-end_of-book : goal.returns-then-end_of-book
 returns-then-end_of-book c = record {
   answer =
-      let p = c.before.before in
-      let t = p.before.before in
-      good-shape t.args.book.now (long t) _ t.sections-n.ensures.count _ p.first_bad-bad.ensures.entry
-      p.if-bad-n.false _ c.before.end_of_lem.ensures c.if-end_of-book.true;
+      good-shape c.args.book.now (long (goal.at.returns-then-end_of-book c).Else-book-n) _ c.sections-n.ensures.count _ c.first_bad-bad.ensures.entry
+      c.if-bad-n.false _ c.end_of.ensures.value c.if-end_of-book.true;
 }
 
 pub returns-then-n-eq12 : goal.returns-then-n-eq12
 returns-then-n-eq12 c = record {
   answer =
-      let p = c.before.before.before in
-      let t = p.before.before in
-      over-second t.args.book.now (long t) _ t.sections-n.ensures.count _ p.first_bad-bad.ensures.entry
-      p.if-bad-n.false _ c.before.before.end_of_lem.ensures c.if-end_of-book.false c.if-n-eq12.true;
+      over-second c.args.book.now (long (goal.at.returns-then-n-eq12 c).Else-book-n) _ c.sections-n.ensures.count _ c.first_bad-bad.ensures.entry
+      c.if-bad-n.false _ c.end_of.ensures.value c.if-end_of-book.false c.if-n-eq12.true;
 }
 
 pub returns : goal.returns
 returns c = record {
   answer =
-      let p = c.before.before.before in
-      let t = p.before.before in
-      over_first t.args.book.now (long t) _ t.sections-n.ensures.count _ p.first_bad-bad.ensures.entry
-      p.if-bad-n.false _ c.before.before.end_of_lem.ensures c.if-end_of-book.false c.if-n-eq12.false;
+      over_first c.args.book.now (long (goal.at.returns c).Else-book-n) _ c.sections-n.ensures.count _ c.first_bad-bad.ensures.entry
+      c.if-bad-n.false _ c.end_of.ensures.value c.if-end_of-book.false c.if-n-eq12.false;
 }

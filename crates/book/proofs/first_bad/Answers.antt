@@ -1,6 +1,5 @@
-use Prim.Native.Nat.{◌≤◌, ◌<◌, ◌-◌}
+use Prim.Native.Nat.{◌≤◌, ◌<◌}
 use mathlib.Core.Path.{sym, ◌∙◌}
-use mathlib.Core.Bool.{false}
 use native.Mathlib.Nat.{not-suc-le-zero}
 use native.Mathlib.Numerals.{add-one}
 use native.Mathlib.Omega.{arith}
@@ -45,7 +44,7 @@ end_of-due-requires c = record {
 pub loop-i-preserved : goal.loop-i-preserved
 loop-i-preserved c = (
   search rules,
-  rw add-one c.end_of_lem.ensures,
+  rw add-one c.end_of-due.ensures.value,
   below_more _ _ c.loop-i.invariant.2
       (sym c.bad_section.ensures.test ∙ c.if-bad_section.false),
 )

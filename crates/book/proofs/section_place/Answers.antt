@@ -44,5 +44,5 @@ returns c = record {
       let e : is_accepted (section_answer a.book.now a.number) ≡ true =
       rw c.section_answer.ensures.answer at (sym c.is_accepted.ensures.test
       ∙ c.if-not-is_accepted.false) in
-      rw (e, c.before.start_of_lem.ensures, c.length_of.ensures.value);
+      rw (e, c.start_of.ensures.value, c.length_of.ensures.value);
 }
