@@ -9,25 +9,19 @@ use Rattle.book.proofs.Shape.{first_word}
 use Rattle.bodies.specs.Words.{loaded}
 use Rattle.bodies.proofs.Words.{words_inside, words-cleared}
 use Rattle.bodies.proofs.leave.Goals as goal
+use Rattle.bodies.proofs.leave.Goals.{After-offset}
 
 pub returns-then-not-kept : goal.returns-then-not-kept
-returns-then-not-kept c = record {
-  list =
-      let t = c.before.before.before.before in
-      let k : t.args.kept ≡ false = t.if-not-kept.true in
-      rw k c.clear.ensures.zeros;
-}
+returns-then-not-kept c = record { list = let k : c.args.kept ≡ false = c.if-not-kept.true in rw k c.clear.ensures.zeros }
 
 pub sections-requires : goal.sections-requires
-sections-requires c = let s = c.before.before.before.before in first_word s.args.book.now s.requires.good
+sections-requires c = first_word c.args.book.now c.requires.good
 
 pub offset-requires : goal.offset-requires
-offset-requires c =
-    let s = c.before.before.before.before.before in
-    (omega (arith, c.sections.ensures.count), s.requires.good)
+offset-requires c = (omega (arith, c.sections.ensures.count), c.requires.good)
 
 -- all words are counted
-counted : (c : goal.After-offset)
+counted : (c : After-offset)
     → (let b = c.args.book.now in c.offset.result ≡ length (loaded b (sections b)))
 counted c =
     let b = c.args.book.now in
@@ -35,18 +29,15 @@ counted c =
 
 pub clear_from-requires : goal.clear_from-requires
 clear_from-requires c =
-    let s = c.before.before.before.before.before.before in
-    let b = s.args.book.now in
-    let h : length (loaded b (sections b)) ≤ length s.args.words.now = words_inside b s.args.words.now s.requires.words_value in
+    let b = c.args.book.now in
+    let h : length (loaded b (sections b)) ≤ length c.args.words.now = words_inside b c.args.words.now c.requires.words_value in
     rw (counted c) h
 
 pub returns : goal.returns
 returns c = record {
   list =
-      let o = c.before.before.before in
-      let t = o.before.before.before in
-      let s = t.before.before.before in
-      let b = s.args.book.now in
-      let k : s.args.kept ≡ true = t.if-not-kept.false in
-      rw k (words-cleared (loaded b (sections b)) _ s.args.words.now _ _ s.requires.words_value (counted o) c.clear_from.ensures.zeros);
+      let b = c.args.book.now in
+      let k : c.args.kept ≡ true = c.if-not-kept.false in
+      rw k (words-cleared (loaded b (sections b)) _ c.args.words.now _ _ c.requires.words_value (counted (goal.at.returns c).After-offset)
+      c.clear_from.ensures.zeros);
 }

@@ -1,4 +1,4 @@
-use Prim.Native.Nat.{◌≤◌, ◌-◌, ◌+◌}
+use Prim.Native.Nat.{◌≤◌, ◌+◌}
 use native.Mathlib.Omega.{arith}
 use Rattle.bodies.proofs.Words.{loaded-none, offset-more, loaded-fits}
 use mathlib.Core.Path.{◌≡◌}
