@@ -1,5 +1,5 @@
 -- The digits of what is left of the number, before those that stand already, are the whole number's. Assumes nothing.
-use Prim.Native.Nat.{suc, ◌-◌, ◌^◌, ◌<◌}
+use Prim.Native.Nat.{suc, ◌^◌, ◌<◌}
 use mathlib.Core.Path.{◌≡◌}
 use mathlib.Core.List.{◌++◌}
 use lib.ListN.{length, drop}

@@ -13,14 +13,8 @@ returns-then-answer-eq0 c = record {
 
 pub returns : goal.returns
 returns c = record {
-  fits = let e = c.put_number-at-2 in
-      let d = c.put_number-at in
-      let t = c.before.before.before.before.before.before.before.before.before in
-      let p = c.put-at in
-      let w = t.args.answer in omega arith;
-  line = let e = c.put_number-at-2 in
-      let d = c.put_number-at in
-      let t = c.before.before.before.before.before.before.before.before.before in
-      let p = c.put-at in
-      let w = t.args.answer in refused-line w _ _ _ _ _ _ t.if-answer-eq0.false p.ensures.front d.ensures.front e.ensures.front c.put_number-at.ensures.front refl refl;
+  fits = omega arith;
+  line =
+      refused-line c.args.answer _ _ _ _ _ _ c.if-answer-eq0.false c.put-at.ensures.front c.put_number-at.ensures.front
+      c.put_number-at-2.ensures.front c.put_number.ensures.front refl refl;
 }
