@@ -25,7 +25,7 @@ returns-then-is_negative c = record {
 pub returns : goal.returns
 returns c = record {
   value =
-      c.bv_lshr-out.ensures.value
+      c.bv_lshr.ensures.value
       ∙ sym
       (ashr-positive c.args.w c.args.a c.args.b
       (sym c.is_negative.ensures.sign ∙ c.if-is_negative.false));
