@@ -11,12 +11,9 @@ pub returns-then-not-args_in_range : goal.returns-then-not-args_in_range
 returns-then-not-args_in_range c = record { test = fails _ (sym c.args_in_range.ensures.test ∙ c.if-not-args_in_range.true) ∙ two _ _ _ }
 
 pub call_dup-requires : goal.call_dup-requires
-call_dup-requires c = record {
-  k_in_bounds = let p = c.requires in
-      let (a, _) = all_true _ (sym c.args_in_range.ensures.test ∙ c.if-not-args_in_range.false) in p.k_in_bounds;
-  args_inside = let p = c.requires in
-      let (a, _) = all_true _ (sym c.args_in_range.ensures.test ∙ c.if-not-args_in_range.false) in below_more _ _ p.args_inside (leb-true _ _ a);
-}
+call_dup-requires c =
+    let (a, _) = all_true _ (sym c.args_in_range.ensures.test ∙ c.if-not-args_in_range.false) in
+    record { k_in_bounds = c.requires.k_in_bounds; args_inside = below_more _ _ c.requires.args_inside (leb-true _ _ a) }
 
 pub returns : goal.returns
 returns c = record {

@@ -6,55 +6,51 @@ use lib.ListN.{length}
 use Rattle.entries.specs.Entries.{stride}
 use Rattle.entries.proofs.Entry.{good-cut, whole-at, good-taken, good-own}
 use Rattle.entries.proofs.entry_good.Goals as goal
+use Rattle.entries.proofs.entry_good.Goals.{Else-table-off}
 
 pub returns-then-table-off : goal.returns-then-table-off
 returns-then-table-off c = record {
   test =
-      let p = c.before.before.before.before.before.before in
-      good-cut p.args.which p.args.second _ _ _ _ _ _ p.args.w p.args.off p.requires.w_value.0 p.requires.w_value.1 (omega arith);
+      let s = c.args in
+      good-cut s.which s.second _ _ _ _ _ _ s.w s.off c.requires.w_value.0 c.requires.w_value.1 (omega arith);
 }
 
 -- the entry is whole
-whole : (c : goal.Else-table-off)
+whole : (c : Else-table-off)
     → let s = c.args in
     s.k * stride s.which + stride s.which ≤ length s.table.now
 whole c =
-    let p = c.before.before.before.before.before.before in
-    let s = p.args in
-    whole-at s.which s.second s.table.now s.beside.now s.target.now s.ws.now s.cls.now s.k s.w s.off p.requires.w_value.0
-    p.requires.w_value.1
+    let s = c.args in
+    whole-at s.which s.second s.table.now s.beside.now s.target.now s.ws.now s.cls.now s.k s.w s.off c.requires.w_value.0
+    c.requires.w_value.1
     (omega arith)
 
 pub sort_in-sort-requires : goal.sort_in-sort-requires
 sort_in-sort-requires c = record {
-  which_in_bounds = whole c;
+  which_in_bounds = whole (goal.at.sort_in-sort-requires c).Else-table-off;
   sorted = c.requires.sorted;
 }
 
 pub returns-then-not-free_var : goal.returns-then-not-free_var
 returns-then-not-free_var c = record {
   test =
-      let q = c.before.before.before in
-      let p = q.before.before.before.before.before.before.before in
-      good-taken p.args.which p.args.second _ _ _ _ _ _ p.args.w p.args.off p.requires.w_value.0 p.requires.w_value.1 (omega arith)
-      (rw q.sort_in-sort.ensures.sort.1 at (sym c.free_var.ensures.test ∙ c.if-not-free_var.true));
+      let s = c.args in
+      good-taken s.which s.second _ _ _ _ _ _ s.w s.off c.requires.w_value.0 c.requires.w_value.1 (omega arith)
+      (rw c.sort_in-sort.ensures.sort.1 at (sym c.free_var.ensures.test ∙ c.if-not-free_var.true));
 }
 
 pub own_good-requires : goal.own_good-requires
 own_good-requires c = record {
-  which_in_bounds = let q = c.before.before.before in
-      let p = q.before.before.before.before.before.before.before in whole q.before;
-  args_before = let q = c.before.before.before in
-      let p = q.before.before.before.before.before.before.before in p.requires.args_before;
+  which_in_bounds = whole (goal.at.own_good-requires c).Else-table-off;
+  args_before = c.requires.args_before;
 }
 
 pub returns : goal.returns
 returns c = record {
   test =
-      let q = c.before.before.before.before in
-      let p = q.before.before.before.before.before.before.before in
-      rw q.sort_in-sort.ensures.sort.0 at c.own_good.ensures.test
-      ∙ rw p.requires.cls_len
-      (good-own p.args.which p.args.second _ _ _ _ _ _ p.args.w p.args.off p.requires.w_value.0 p.requires.w_value.1 (omega arith)
-      (rw q.sort_in-sort.ensures.sort.1 at (sym c.free_var.ensures.test ∙ c.if-not-free_var.false)));
+      let s = c.args in
+      rw c.sort_in-sort.ensures.sort.0 at c.own_good.ensures.test
+      ∙ rw c.requires.cls_len
+      (good-own s.which s.second _ _ _ _ _ _ s.w s.off c.requires.w_value.0 c.requires.w_value.1 (omega arith)
+      (rw c.sort_in-sort.ensures.sort.1 at (sym c.free_var.ensures.test ∙ c.if-not-free_var.false)));
 }

@@ -5,7 +5,10 @@ pub read_own-requires : goal.read_own-requires
 read_own-requires c = rw c.in-Reads.is at c.requires.which_in_bounds
 
 pub call_own-requires : goal.call_own-requires
-call_own-requires c = rw c.in-Calls.is at c.requires
+call_own-requires c = record {
+  k_in_bounds = rw c.in-Calls.is at c.requires.which_in_bounds;
+  args_inside = rw c.in-Calls.is at c.requires.args_before;
+}
 
 pub returns-in-Reads : goal.returns-in-Reads
 returns-in-Reads c = record { test = rw c.in-Reads.is c.read_own.ensures.test }
