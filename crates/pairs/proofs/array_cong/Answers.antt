@@ -1,6 +1,7 @@
 use Prim.Native.Nat.{◌-◌}
 use native.Mathlib.Nat.{sub-zero}
 use native.Mathlib.Omega.{arith}
+use borrow.Author.Tests.{not-true, not-false}
 use Rattle.pairs.proofs.Walk.{table-end, table_on, table-stop}
 use Rattle.pairs.proofs.array_cong.Goals as goal
 
@@ -17,18 +18,16 @@ array_cong_for-c-requires c = record {
 pub returns-then-not-c : goal.returns-then-not-c
 returns-then-not-c c = record {
   walk =
-      let at-loop = c.before.before.before.before in
-      table-stop at-loop.loop-k.invariant.1 (rw at-loop.read_count-n.ensures.count at c.loop-k-test.true) _
-      c.array_cong_for-c.ensures.walk (c.if-not-c.true);
+      table-stop c.loop-k.invariant.1 (rw c.read_count-n.ensures.count at c.loop-k-test.true) _
+      c.array_cong_for-c.ensures.walk (not-true _ c.if-not-c.true);
 }
 
 pub loop-k-preserved : goal.loop-k-preserved
-loop-k-preserved c =
-    let at-loop = c.before.before.before.before in (
-      omega arith,
-      table_on at-loop.loop-k.invariant.1 (rw at-loop.read_count-n.ensures.count at c.loop-k-test.true) _
-          c.array_cong_for-c.ensures.walk (c.if-not-c.false),
-    )
+loop-k-preserved c = (
+  omega arith,
+  table_on c.loop-k.invariant.1 (rw c.read_count-n.ensures.count at c.loop-k-test.true) _
+      c.array_cong_for-c.ensures.walk (not-false _ c.if-not-c.false),
+)
 
 pub returns : goal.returns
 returns c = record { walk = table-end c.loop-k.invariant.1 (rw c.read_count-n.ensures.count at c.loop-k-test.false) }
