@@ -1,6 +1,7 @@
 use Prim.Native.Nat.{◌-◌}
 use native.Mathlib.Nat.{sub-zero}
 use native.Mathlib.Omega.{arith}
+use borrow.Author.Tests.{not-true, not-false}
 use Rattle.pairs.proofs.Walk.{table-end, table_on, table-stop}
 use Rattle.congruence.proofs.uf_cong.Goals as goal
 
@@ -9,26 +10,24 @@ loop-k-init c = (omega arith, record { kept = rw sub-zero })
 
 pub uf_cong_for-c-requires : goal.uf_cong_for-c-requires
 uf_cong_for-c-requires c = record {
-  calls_in = let pre = c.requires in pre.calls_in;
-  eqs_even = let pre = c.requires in pre.eqs_even;
-  k_bound = let pre = c.requires in rw c.call_count-n.ensures.count at c.loop-k-test.true;
+  calls_in = c.requires.calls_in;
+  eqs_even = c.requires.eqs_even;
+  k_bound = rw c.call_count-n.ensures.count at c.loop-k-test.true;
 }
 
 pub returns-then-not-c : goal.returns-then-not-c
 returns-then-not-c c = record {
   walk =
-      let at-loop = c.before.before.before.before in
-      table-stop at-loop.loop-k.invariant.1 (rw at-loop.call_count-n.ensures.count at c.loop-k-test.true) _
-      c.uf_cong_for-c.ensures.walk (c.if-not-c.true);
+      table-stop c.loop-k.invariant.1 (rw c.call_count-n.ensures.count at c.loop-k-test.true) _
+      c.uf_cong_for-c.ensures.walk (not-true _ c.if-not-c.true);
 }
 
 pub loop-k-preserved : goal.loop-k-preserved
-loop-k-preserved c =
-    let at-loop = c.before.before.before.before in (
-      omega arith,
-      table_on at-loop.loop-k.invariant.1 (rw at-loop.call_count-n.ensures.count at c.loop-k-test.true) _
-          c.uf_cong_for-c.ensures.walk (c.if-not-c.false),
-    )
+loop-k-preserved c = (
+  omega arith,
+  table_on c.loop-k.invariant.1 (rw c.call_count-n.ensures.count at c.loop-k-test.true) _
+      c.uf_cong_for-c.ensures.walk (not-false _ c.if-not-c.false),
+)
 
 pub returns : goal.returns
 returns c = record { walk = table-end c.loop-k.invariant.1 (rw c.call_count-n.ensures.count at c.loop-k-test.false) }

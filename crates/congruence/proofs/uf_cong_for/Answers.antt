@@ -1,7 +1,6 @@
 use Prim.Native.Nat.{ℕ, ◌+◌, ◌*◌, ◌≤◌, ◌-◌}
 use mathlib.Core.Path.{◌≡◌, refl, ◌∙◌, sym, ap}
-use mathlib.Core.Bool.{Bool}
-use mathlib.Core.Logic.{⊎_elim}
+use mathlib.Core.Bool.{Bool, true}
 use native.Mathlib.Omega.{arith}
 use lib.ListN.{length}
 use Rattle.lowering.specs.Tables.{call_function, call_start, arg_count, result_width, same_function}
@@ -11,181 +10,150 @@ use Rattle.keys.proofs.Keys.{same-function-at, alike, other-function, alike-fiel
 use Rattle.pairs.proofs.Walk.{row-end, row-skip, row_on, row-stop, root-inside}
 use Rattle.congruence.proofs.Even.{one_function_lem}
 use Rattle.congruence.proofs.uf_cong_for.Goals as goal
-
--- places, seen from the loop: after the count, and the start
-abbrev counted : goal.At-loop-l → goal.After-call_count-n
-counted a = a.before.before.before.before.before.before
-
-abbrev start : goal.At-loop-l → goal.Start
-start a = (counted a).before.before.before.before.before.before
-
--- entry k is whole
-whole : (p : goal.Start) → p.args.k * 4 + 4 ≤ length p.args.calls.now
-whole p = (p.requires.calls_in _ p.requires.k_bound).0
+use Rattle.congruence.proofs.uf_cong_for.Goals.{In-loop-l, After-function_is, After-same_function, After-call_stands}
+use Rattle.congruence.proofs.uf_cong_for.Goals.{then-function_is+then-call_stands, then-function_is+else-call_stands+else-same_function, else-function_is}
 
 pub overflow_mul-at : goal.overflow_mul-at
-overflow_mul-at c = omega (arith, whole c.before.before.before.before.before.before)
+overflow_mul-at c = omega (arith, (c.requires.calls_in _ c.requires.k_bound).0)
 
 pub offset_bounds-calls-at : goal.offset_bounds-calls-at
-offset_bounds-calls-at c = omega (arith, whole c.before.before.before.before.before.before)
+offset_bounds-calls-at c = omega (arith, (c.requires.calls_in _ c.requires.k_bound).0)
 
 pub bounds-calls-at : goal.bounds-calls-at
-bounds-calls-at c = omega (arith, whole c.before.before.before.before.before.before.before)
+bounds-calls-at c = omega (arith, (c.requires.calls_in _ c.requires.k_bound).0)
 
 pub overflow_add-fid : goal.overflow_add-fid
-overflow_add-fid c = omega (arith, whole c.before.before.before.before.before.before.before)
+overflow_add-fid c = omega (arith, (c.requires.calls_in _ c.requires.k_bound).0)
 
 pub offset_bounds-calls-at-2 : goal.offset_bounds-calls-at-2
-offset_bounds-calls-at-2 c = omega (arith, whole c.before.before.before.before.before.before.before)
+offset_bounds-calls-at-2 c = omega (arith, (c.requires.calls_in _ c.requires.k_bound).0)
 
 pub bounds-calls-at-2 : goal.bounds-calls-at-2
-bounds-calls-at-2 c = omega (arith, whole c.before.before.before.before.before.before.before.before)
+bounds-calls-at-2 c = omega (arith, (c.requires.calls_in _ c.requires.k_bound).0)
 
 pub overflow_add-sp : goal.overflow_add-sp
-overflow_add-sp c = omega (arith, whole c.before.before.before.before.before.before.before.before)
+overflow_add-sp c = omega (arith, (c.requires.calls_in _ c.requires.k_bound).0)
 
 pub offset_bounds-calls-at-3 : goal.offset_bounds-calls-at-3
-offset_bounds-calls-at-3 c = omega (arith, whole c.before.before.before.before.before.before.before.before)
+offset_bounds-calls-at-3 c = omega (arith, (c.requires.calls_in _ c.requires.k_bound).0)
 
 pub bounds-calls-at-3 : goal.bounds-calls-at-3
-bounds-calls-at-3 c = omega (arith, whole c.before.before.before.before.before.before.before.before.before)
+bounds-calls-at-3 c = omega (arith, (c.requires.calls_in _ c.requires.k_bound).0)
 
 pub overflow_add-count : goal.overflow_add-count
-overflow_add-count c = omega (arith, whole c.before.before.before.before.before.before.before.before.before)
+overflow_add-count c = omega (arith, (c.requires.calls_in _ c.requires.k_bound).0)
 
 pub offset_bounds-calls-at-4 : goal.offset_bounds-calls-at-4
-offset_bounds-calls-at-4 c = omega (arith, whole c.before.before.before.before.before.before.before.before.before)
+offset_bounds-calls-at-4 c = omega (arith, (c.requires.calls_in _ c.requires.k_bound).0)
 
 pub bounds-calls-at-4 : goal.bounds-calls-at-4
-bounds-calls-at-4 c = omega (arith, whole c.before.before.before.before.before.before.before.before.before.before)
+bounds-calls-at-4 c = omega (arith, (c.requires.calls_in _ c.requires.k_bound).0)
 
 pub overflow_add-l : goal.overflow_add-l
-overflow_add-l c = omega (arith, whole c.before.before.before.before.before.before.before.before.before.before.before)
+overflow_add-l c = omega (arith, (c.requires.calls_in _ c.requires.k_bound).0)
 
 pub loop-l-init : goal.loop-l-init
 loop-l-init c = (omega (arith, c.call_count-n.ensures.count), record { kept = refl })
 
 -- entry l is whole and its arguments lie in their list
-entry : (c : goal.In-loop-l)
-    → let s = (start c.before).args in
+entry : (c : In-loop-l)
+    → let s = c.args in
     let l = c.loop-l.l in
     (l * 4 + 4 ≤ length s.calls.now) × (call_start s.calls.now l + arg_count s.calls.now l ≤ length s.cargs.now)
-entry c = (start c.before).pre.0 _ (rw (counted c.before).call_count-n.ensures.count at c.loop-l-test.true)
+entry c = c.requires.calls_in _ (rw c.call_count-n.ensures.count at c.loop-l-test.true)
 
 pub overflow_mul-o : goal.overflow_mul-o
-overflow_mul-o c = omega (arith, (entry c).0)
+overflow_mul-o c = omega (arith, (entry (goal.at.overflow_mul-o c).In-loop-l).0)
 
 pub function_is-requires : goal.function_is-requires
-function_is-requires c = (entry c).0
+function_is-requires c = (entry (goal.at.function_is-requires c).In-loop-l).0
 
 -- what the calls test
-alike_is : (c : goal.After-function_is)
-    → let a = c.before.before in
-    let s = (start a).args in
-    c.function_is.result ≡ alike s.calls.now s.cargs.now s.ws.now s.k a.loop-l.l
+alike_is : (c : After-function_is) → let s = c.args in c.function_is.result ≡ alike s.calls.now s.cargs.now s.ws.now s.k c.loop-l.l
 alike_is c =
-    let a = c.before.before in
-    let s = (start a).args in
-    let at : ℕ → Bool =
-    function_is s.calls.now s.ws.now (a.loop-l.l * 4) (call_function s.calls.now s.k) (arg_count s.calls.now s.k) in
-    c.function_is.ensures.test ∙ ap at a.width_at-width.ensures.width
+    let s = c.args in
+    let at : ℕ → Bool = function_is s.calls.now s.ws.now (c.loop-l.l * 4) (call_function s.calls.now s.k) (arg_count s.calls.now s.k) in
+    c.function_is.ensures.test ∙ ap at c.width_at-width.ensures.width
 
-told : (c : goal.Then-function_is)
-    → let a = c.before.before.before in
-    let s = (start a).args in
-    (call_function s.calls.now s.k ≡ call_function s.calls.now a.loop-l.l)
-    × (arg_count s.calls.now s.k ≡ arg_count s.calls.now a.loop-l.l)
-    × (result_width s.calls.now s.ws.now s.k ≡ result_width s.calls.now s.ws.now a.loop-l.l)
-told c =
-    let a = c.before.before.before in
-    let s = (start a).args in
-    alike-fields s.calls.now s.cargs.now s.ws.now s.k a.loop-l.l (sym (alike_is c.before) ∙ c.if-function_is.true)
+-- what entries k and l have alike where the first test passes
+told : (c : After-function_is) → c.function_is.result ≡ true
+    → let s = c.args in
+    (call_function s.calls.now s.k ≡ call_function s.calls.now c.loop-l.l)
+    × (arg_count s.calls.now s.k ≡ arg_count s.calls.now c.loop-l.l)
+    × (result_width s.calls.now s.ws.now s.k ≡ result_width s.calls.now s.ws.now c.loop-l.l)
+told c h = let s = c.args in alike-fields s.calls.now s.cargs.now s.ws.now s.k c.loop-l.l (sym (alike_is c) ∙ h)
 
-needs-is : (c : goal.After-same_function)
-    → let a = c.before.before.before.before.before.before.before.before in
-    let s = (start a).args in
-    c.same_function.result ≡ same_function s.calls.now s.cargs.now s.ws.now s.k a.loop-l.l
+needs-is : (c : After-same_function) → let s = c.args in c.same_function.result ≡ same_function s.calls.now s.cargs.now s.ws.now s.k c.loop-l.l
 needs-is c =
-    let a = c.before.before.before.before.before.before.before.before in
-    let s = (start a).args in
-    let agree = functions_agree s.calls.now s.cargs.now s.ws.now (s.k * 4) (a.loop-l.l * 4) in
+    let s = c.args in
+    let agree = functions_agree s.calls.now s.cargs.now s.ws.now (s.k * 4) (c.loop-l.l * 4) in
     let e : c.same_function.result ≡ agree = c.same_function.ensures.test in
-    e ∙ same-function-at s.calls.now s.cargs.now s.ws.now _ _ s.k a.loop-l.l refl refl
+    e ∙ same-function-at s.calls.now s.cargs.now s.ws.now _ _ s.k c.loop-l.l refl refl
 
-stands-is : (c : goal.After-call_stands)
-    → let a = c.before.before.before.before.before.before in
-    let s = (start a).args in
-    c.call_stands.result ≡ root_at s.troots.now (call_root s.calls.now s.cargs.now s.target.now) a.loop-l.idx
-    (pair s.k a.loop-l.l)
+stands-is : (c : After-call_stands)
+    → let s = c.args in
+    c.call_stands.result ≡ root_at s.troots.now (call_root s.calls.now s.cargs.now s.target.now) c.loop-l.idx (pair s.k c.loop-l.l)
 unfolding root_at
 stands-is c = c.call_stands.ensures.test
 
 pub overflow_add-sq : goal.overflow_add-sq
-overflow_add-sq c = omega (arith, (entry c.before.before).0)
+overflow_add-sq c = omega (arith, (entry (goal.at.overflow_add-sq c).In-loop-l).0)
 
 pub offset_bounds-calls-o : goal.offset_bounds-calls-o
-offset_bounds-calls-o c = omega (arith, (entry c.before.before).0)
+offset_bounds-calls-o c = omega (arith, (entry (goal.at.offset_bounds-calls-o c).In-loop-l).0)
 
 pub bounds-calls-o : goal.bounds-calls-o
-bounds-calls-o c = omega (arith, (entry c.before.before.before).0)
+bounds-calls-o c = omega (arith, (entry (goal.at.bounds-calls-o c).In-loop-l).0)
 
 pub offset_bounds-calls-o-then-function_is : goal.offset_bounds-calls-o-then-function_is
-offset_bounds-calls-o-then-function_is c = omega (arith, (entry c.before.before.before).0)
+offset_bounds-calls-o-then-function_is c = omega (arith, (entry (goal.at.offset_bounds-calls-o-then-function_is c).In-loop-l).0)
 
 pub bounds-calls-o-then-function_is : goal.bounds-calls-o-then-function_is
-bounds-calls-o-then-function_is c = omega (arith, (entry c.before.before.before.before).0)
+bounds-calls-o-then-function_is c = omega (arith, (entry (goal.at.bounds-calls-o-then-function_is c).In-loop-l).0)
 
 pub call_stands-requires : goal.call_stands-requires
 call_stands-requires c =
-    let in-loop = c.before.before.before.before in
-    let p = start in-loop.before in
-    let e = (told c.before.before).1 in
-    ((p.pre.0 _ p.pre.1.1).1, rw e (entry in-loop).1)
+    let at = goal.at.call_stands-requires c in
+    let e = (told at.After-function_is c.if-function_is.true).1 in
+    ((c.requires.calls_in _ c.requires.k_bound).1, rw e (entry at.In-loop-l).1)
 
 pub overflow_add-idx : goal.overflow_add-idx
-overflow_add-idx c = omega (arith, root-inside _ _ _ _ (sym (stands-is c.before) ∙ c.if-call_stands.true))
+overflow_add-idx c = omega (arith, root-inside _ _ _ _ (sym (stands-is (goal.at.overflow_add-idx c).After-call_stands) ∙ c.if-call_stands.true))
 
 pub same_function-requires : goal.same_function-requires
-same_function-requires c = record {
-  p_in_bounds = let in-loop = c.before.before.before.before.before.before in
-      let p = start in-loop.before in (whole p, (entry in-loop).0);
-  args_at = let in-loop = c.before.before.before.before.before.before in
-      let p = start in-loop.before in ((p.pre.0 _ p.pre.1.1).1, (entry in-loop).1);
-}
+same_function-requires c =
+    let e = entry (goal.at.same_function-requires c).In-loop-l in
+    let w = c.requires.calls_in _ c.requires.k_bound in record { p_in_bounds = (w.0, e.0); args_at = (w.1, e.1) }
 
 pub returns-then-same_function : goal.returns-then-same_function
 returns-then-same_function c = record {
   walk =
-      let in-loop = c.before.before.before.before.before.before.before.before in
-      let at-loop = in-loop.before in
-      row-stop at-loop.loop-l.invariant.1 (rw (counted at-loop).call_count-n.ensures.count at in-loop.loop-l-test.true)
-      (sym (needs-is c.before) ∙ c.if-same_function.true)
-      (sym (stands-is c.before.before.before) ∙ c.if-call_stands.false);
+      let at = goal.at.returns-then-same_function c in
+      row-stop c.loop-l.invariant.1 (rw c.call_count-n.ensures.count at c.loop-l-test.true)
+      (sym (needs-is at.After-same_function) ∙ c.if-same_function.true) (sym (stands-is at.After-call_stands) ∙ c.if-call_stands.false);
 }
 
 pub loop-l-preserved : goal.loop-l-preserved
 unfolding root_at
 loop-l-preserved c =
-    let at-loop = c.before.before.before in
-    let s = (start at-loop).args in
-    let l = at-loop.loop-l in
-    let h = rw (counted at-loop).call_count-n.ensures.count at c.loop-l-test.true in
-    let one =
-    one_function_lem s.target.now s.ws.now (start at-loop).requires.eqs_even s.calls.now s.cargs.now s.troots.now s.k l.l
-    l.idx in
+    let s = c.args in
+    let l = c.loop-l in
+    let h = rw c.call_count-n.ensures.count at c.loop-l-test.true in
+    let one = one_function_lem s.target.now s.ws.now c.requires.eqs_even s.calls.now s.cargs.now s.troots.now s.k l.l l.idx in
     let same = same-function-at s.calls.now s.cargs.now s.ws.now _ _ s.k l.l refl refl in
-    let other = other-function s.calls.now s.cargs.now s.ws.now s.k l.l in (
+    let other = other-function s.calls.now s.cargs.now s.ws.now s.k l.l in
+    let at = goal.at.loop-l-preserved c in (
       omega arith,
-      ⊎_elim
-          (λ w.
-          let stands = sym w.3.ensures ∙ w.4.taken in
-          let (f, n, b) = told record { before = c.before; if1 = w.0 } in
-          rw w.5 (row_on l.invariant.1 h (one stands f n b) stands))
-          (⊎_elim
-          (λ w. rw w.7 (row-skip l.invariant.1 h (sym same ∙ sym w.5.ensures ∙ w.6.left)))
-          (λ w. rw w.1 (row-skip l.invariant.1 h (other (sym (alike_is c.before) ∙ w.0.left)))))
-          c.if-function_is.branch,
+      elim c.if-function_is.branch [
+        | then-function_is+then-call_stands w ↦
+            let stands = sym w.call_stands.ensures.test ∙ w.if-call_stands.true in
+            let (f, n, b) = told at.After-function_is w.if-function_is.true in
+            rw w.idx-is (row_on l.invariant.1 h (one stands f n b) stands)
+        | then-function_is+else-call_stands+else-same_function w ↦
+            rw w.idx-is (row-skip l.invariant.1 h (sym same ∙ sym w.same_function.ensures.test ∙ w.if-same_function.false))
+        | else-function_is w ↦ rw w.idx-is (row-skip l.invariant.1 h (other (sym (alike_is at.After-function_is) ∙ w.if-function_is.false)))
+      ],
     )
 
 pub returns : goal.returns
-returns c = record { walk = row-end c.loop-l.invariant.1 (rw (counted c.before).call_count-n.ensures.count at c.loop-l-test.false) }
+returns c = record { walk = row-end c.loop-l.invariant.1 (rw c.call_count-n.ensures.count at c.loop-l-test.false) }
