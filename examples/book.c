@@ -1,6 +1,6 @@
 /* The verdict on a book of any size and either edition, from a file.
  *
- *   rt staticlib gilfrunt > staticlib.log 2>&1
+ *   tools/build gilfrunt > staticlib.log 2>&1
  *   gcc -std=c99 -Iinclude examples/book.c target/staticlib/libgilfrunt.a -o target/book && target/book samples/reply.book
  *
  * The first command proves and builds the library, once. The second prints what

@@ -1,7 +1,7 @@
 /* Check from C, on marked case 1: a byte read from memory became a variable. Then the
  * same with a memory of 16-bit addresses and 16-bit cells, by a sort table.
  *
- *   rt staticlib gilfrunt > staticlib.log 2>&1
+ *   tools/build gilfrunt > staticlib.log 2>&1
  *   gcc -std=c99 -Iinclude examples/check.c target/staticlib/libgilfrunt.a -o target/check && target/check
  *
  * The first command proves and builds the library, once. The second prints `0 0 0`

@@ -1,6 +1,6 @@
 //! Check from Rust, on marked case 1: a byte read from memory became a variable.
 //!
-//!     rt staticlib gilfrunt > staticlib.log 2>&1
+//!     tools/build gilfrunt > staticlib.log 2>&1
 //!     rustc --edition 2021 -L native=target/staticlib -l static=gilfrunt examples/check.rs -o target/check-rs && target/check-rs
 //!
 //! The first command proves and builds the library, once. The second prints `accepted`

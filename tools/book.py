@@ -102,7 +102,7 @@ def ask(program, data, name="verdict"):
         run = subprocess.run([program], input=data, stdout=subprocess.PIPE, timeout=SECONDS)
     except FileNotFoundError:
         raise Failure(f"no program {program}; "
-                      f"`rt check {name}` builds target/bin/{name}") from None
+                      f"`tools/build {name}` builds target/bin/{name}") from None
     except subprocess.TimeoutExpired:
         raise Failure(f"{program} did not answer in {SECONDS} seconds") from None
     line = run.stdout.decode("ascii", "replace")

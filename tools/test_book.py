@@ -25,9 +25,9 @@ SAMPLES = sorted(glob.glob(os.path.join(TOP, "samples", "*.txt")))
 BOOKS = sorted(glob.glob(os.path.join(TOP, "samples", "*.book")))
 VERDICT = os.path.join(TOP, "target", "bin", "verdict")
 STRICT_VERDICT = os.path.join(TOP, "target", "bin", "strict_verdict")
-built = unittest.skipUnless(os.path.exists(VERDICT), "rt check verdict builds target/bin/verdict")
+built = unittest.skipUnless(os.path.exists(VERDICT), "tools/build verdict builds target/bin/verdict")
 strict_built = unittest.skipUnless(os.path.exists(STRICT_VERDICT),
-                                   "rt check strict_verdict builds target/bin/strict_verdict")
+                                   "tools/build strict_verdict builds target/bin/strict_verdict")
 
 
 def stem(path):
@@ -823,7 +823,7 @@ class CommandLine(unittest.TestCase):
         missing = os.path.join(self.folder, "none")
         for options, target in (([], "verdict"), (["--strict"], "strict_verdict")):
             message = self.run_book("explain", path, *options, "--verdict", missing, status=2)[1]
-            self.assertIn(f"no program {missing}; `rt check {target}` builds "
+            self.assertIn(f"no program {missing}; `tools/build {target}` builds "
                           f"target/bin/{target}\n", message)
         self.run_book("explain", path, "--verdict", path, status=2)
 

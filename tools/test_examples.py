@@ -2,7 +2,7 @@
 """Tests of include/gilfrunt.h and examples/: python3 tools/test_examples.py
 
 The header is compiled alone. The examples are built and run by the commands at their
-tops, if target/staticlib/libgilfrunt.a is there (`rt staticlib gilfrunt` builds it).
+tops, if target/staticlib/libgilfrunt.a is there (`tools/build gilfrunt` builds it).
 """
 
 import glob
@@ -19,7 +19,7 @@ from listing import EDITIONS, SECOND, encode, pack
 TOP = os.path.dirname(os.path.dirname(os.path.abspath(__file__)))
 LIBRARY = os.path.join(TOP, "target", "staticlib", "libgilfrunt.a")
 WARNINGS = ["-Wall", "-Wextra", "-Wpedantic", "-Werror"]
-built = unittest.skipUnless(os.path.exists(LIBRARY), "rt staticlib gilfrunt builds the library")
+built = unittest.skipUnless(os.path.exists(LIBRARY), "tools/build gilfrunt builds the library")
 
 
 def needs(*programs):
