@@ -1,5 +1,6 @@
 -- A product of words by halves of 32 bits, modulo 2 ^ 64. Assumes nothing.
-use Rattle.std.proofs.Common.{◌≡◌, ℕ, ◌+◌, ◌*◌, ◌/◌, ◌%◌, ◌^◌, ◌<◌, sym, lt_of_le_of_lt, le_of_lt, mul_assoc, add-mul, mul-le-mul_left, mul-lt-mul_of_pos_right, div-add-mod', mul-add, mul_right_comm, arith, pow_pos}
+use Rattle.std.proofs.Common.{◌≡◌, ℕ, ◌+◌, ◌*◌, ◌/◌, ◌%◌, ◌^◌, ◌<◌, sym, lt_of_le_of_lt, le_of_lt, mul_assoc, add-mul, mul-le-mul_left}
+use Rattle.std.proofs.Common.{mul-lt-mul_of_pos_right, div-add-mod', mul-add, mul_right_comm, arith, pow_pos}
 use native.Mathlib.Nat.{mul-mul-mul_comm}
 
 -- the product of two halves is a word

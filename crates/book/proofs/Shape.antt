@@ -80,7 +80,8 @@ good_book b = go (ltb (length b) (contents b)) refl (ltb (first_bad b) (sections
         record {
           long = ltb-false _ _ e;
           each =
-              λ i l. good-section b i (first-before (bad_section b) (sections b) i (let k : sections b ≤ first_bad b = ltb-false _ _ g in omega arith));
+              λ i l. good-section b i (first-before (bad_section b) (sections b) i (let k : sections b ≤ first_bad b = ltb-false _ _ g in
+              omega arith));
           ends = eqb-true _ _ h;
         }
 

@@ -27,7 +27,8 @@ module _ (target : List ℕ) (xs ys : ℕ → ℕ) where
     unfolding all_equal all
     all-tag e = let z : n ≡ suc (n - 1) = omega arith in rw (z, lt-ltb _ _ inside, e)
 
-    pub all-last : eqb (tag_at target r) t_bool_and ≡ true → is_eq target (xs n) (ys n) (field_at target r 2) ≡ false → all_equal target xs ys n r ≡ false
+    pub all-last : eqb (tag_at target r) t_bool_and ≡ true → is_eq target (xs n) (ys n) (field_at target r 2) ≡ false
+        → all_equal target xs ys n r ≡ false
     unfolding all_equal all
     all-last e q = let z : n ≡ suc (n - 1) = omega arith in rw (z, lt-ltb _ _ inside, e, rw z at q)
 

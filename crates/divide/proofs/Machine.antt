@@ -165,12 +165,14 @@ can-divide w a b x y p r s =
     (nonzero-bits _ (read-nonzero w b _ (second w a b p) p.1 refl) f, quotient_fits w a b p)
 
 -- and the quotient and remainder that it gives
-pub quot-code : (w a b : ℕ) (x y : ℤ) → Divides w a b → x ≡ to_int w a → y ≡ to_int w b → held (quot_z (held x) (held y)) ≡ quot_z (to_int w a) (to_int w b)
+pub quot-code : (w a b : ℕ) (x y : ℤ) → Divides w a b → x ≡ to_int w a → y ≡ to_int w b
+    → held (quot_z (held x) (held y)) ≡ quot_z (to_int w a) (to_int w b)
 quot-code w a b x y p r s =
     rw (r, s, to_z-of_z w64 _ (read_fits w a (first w a b p)), to_z-of_z w64 _ (read_fits w b (second w a b p)))
     (to_z-of_z w64 _ (quotient_fits w a b p))
 
-pub rem-code : (w a b : ℕ) (x y : ℤ) → Divides w a b → x ≡ to_int w a → y ≡ to_int w b → held (rem_z (held x) (held y)) ≡ rem_z (to_int w a) (to_int w b)
+pub rem-code : (w a b : ℕ) (x y : ℤ) → Divides w a b → x ≡ to_int w a → y ≡ to_int w b
+    → held (rem_z (held x) (held y)) ≡ rem_z (to_int w a) (to_int w b)
 rem-code w a b x y p r s =
     let f : SFits w64 (to_int w a) = read_fits w a (first w a b p) in
     rw (r, s, to_z-of_z w64 _ f, to_z-of_z w64 _ (read_fits w b (second w a b p))) (to_z-of_z w64 _ (rem-fits _ _ f))

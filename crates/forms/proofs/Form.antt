@@ -25,7 +25,8 @@ use Rattle.wf.proofs.Stop.{stop-none, stop-ill}
 use Rattle.lowering.proofs.Inversion.{each, not-refused}
 use Rattle.lowering.proofs.Refusals.{refusal-append}
 use Rattle.lowering.specs.Lowering.{SourceGraph, TargetGraph}
-use Rattle.lowering.specs.Check.{source_row_widths, target_row_widths, first_refusal, graph_answers, forms_of, graphs_answer, bit_answers, form_answers}
+use Rattle.lowering.specs.Check.{source_row_widths, target_row_widths, first_refusal, graph_answers, forms_of, graphs_answer, bit_answers}
+use Rattle.lowering.specs.Check.{form_answers}
 
 pub bad-row-le : (graph : Graph) (g : List ℕ) → bad_row graph g ≤ row_count graph g
 bad-row-le graph g = first-le (row_bad graph g) (row_count graph g)
@@ -124,15 +125,16 @@ unfolding first_refusal
 sort-settles sort S T x y v w n = rw n
 
 -- acceptance: no row stops a pass, and the table is good
-module _ (sort : Answer) (S : SourceGraph) (T : TargetGraph) (x y : ℕ) (accepts : is_accepted (first_refusal (graph_answers sort S T x y)) ≡ true) where
-  pub table-good : is_accepted sort ≡ true
-  table-good = let (_, (_, (_, (_, (good, _))))) = each _ accepts in good
+module _ (sort : Answer) (S : SourceGraph) (T : TargetGraph) (x y : ℕ) (accepts : is_accepted (first_refusal (graph_answers sort S T x y)) ≡ true)
+  where
+    pub table-good : is_accepted sort ≡ true
+    table-good = let (_, (_, (_, (_, (good, _))))) = each _ accepts in good
 
-  pub no-stop-source : row_count Source S.rows ≤ x
-  no-stop-source = let (_, (_, (_, (_, (_, (ill0, _)))))) = each _ accepts in ltb-false _ _ (not-refused _ (Ext x) refl ill0)
+    pub no-stop-source : row_count Source S.rows ≤ x
+    no-stop-source = let (_, (_, (_, (_, (_, (ill0, _)))))) = each _ accepts in ltb-false _ _ (not-refused _ (Ext x) refl ill0)
 
-  pub no-stop-target : row_count Target T.rows ≤ y
-  no-stop-target = let (_, (_, (_, (_, (_, (_, (ill1, _))))))) = each _ accepts in ltb-false _ _ (not-refused _ (Core y) refl ill1)
+    pub no-stop-target : row_count Target T.rows ≤ y
+    no-stop-target = let (_, (_, (_, (_, (_, (_, (ill1, _))))))) = each _ accepts in ltb-false _ _ (not-refused _ (Core y) refl ill1)
 
 -- so the whole list of widths stands there
 pub widths-all : (σ : Sorts) (graph : Graph) (nbits : ℕ) (side g ws : List ℕ) → row_count graph g ≤ stop_row σ graph nbits side g

@@ -62,7 +62,8 @@ module _ (calls cargs ws : List ℕ) where
       ) at e))
 
   pub alike-fields : (k l : ℕ) → alike k l ≡ true
-      → (call_function calls k ≡ call_function calls l) × (arg_count calls k ≡ arg_count calls l) × (result_width calls ws k ≡ result_width calls ws l)
+      → (call_function calls k ≡ call_function calls l) × (arg_count calls k ≡ arg_count calls l)
+      × (result_width calls ws k ≡ result_width calls ws l)
   alike-fields k l e =
       let (f, (n, (w, _))) = all_true _ e in (
         sym (eqb-true (call_function calls l) (call_function calls k) f),

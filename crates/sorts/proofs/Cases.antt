@@ -36,7 +36,8 @@ unfolding first sort_good all
 case-good = refl
 
 -- "cut": by two words, by one, the second entry
-case-cut : sort_answer (second_edition (7 ∷ [])) ∷ sort_answer (second_edition (7 ∷ 16 ∷ [])) ∷ sort_answer (second_edition (7 ∷ 16 ∷ 16 ∷ 9 ∷ 3 ∷ [])) ∷ []
+case-cut : sort_answer (second_edition (7 ∷ [])) ∷ sort_answer (second_edition (7 ∷ 16 ∷ [])) ∷ sort_answer
+    (second_edition (7 ∷ 16 ∷ 16 ∷ 9 ∷ 3 ∷ [])) ∷ []
     ≡ SortTable 0 ∷ SortTable 0 ∷ SortTable 1 ∷ []
 unfolding first sort_good all
 case-cut = refl

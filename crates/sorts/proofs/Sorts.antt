@@ -29,7 +29,8 @@ module _ (table : List ℕ) where
 
   pub sort-none : (k : ℕ) → sort_count table ≤ k → ((j : ℕ) → j < k → sort_good table j ≡ true) → sort_answer (second_edition table) ≡ Accepted
   sort-none k h before =
-      let f : bad_sort table ≡ sort_count table = first-none (λ j. not (sort_good table j)) (sort_count table) (λ j l. ap not (before j (omega arith))) in
+      let f : bad_sort table ≡ sort_count table = first-none (λ j. not (sort_good table j)) (sort_count table)
+      (λ j l. ap not (before j (omega arith))) in
       rw (f, le-ltb (sort_count table) (sort_count table) (omega arith))
 
   -- an entry by its tests, in their order
@@ -54,7 +55,8 @@ module _ (table : List ℕ) where
 
   module _ (good : Good (second_edition table)) where
     good-at : (k : ℕ) → k < sort_count table → sort_good table k ≡ true
-    good-at k h = not-false _ (first-before (λ j. not (sort_good table j)) (sort_count table) k (go (ltb (bad_sort table) (sort_count table)) refl good))
+    good-at k h = not-false _ (first-before (λ j. not (sort_good table j)) (sort_count table) k (go (ltb (bad_sort table) (sort_count table)) refl
+        good))
       where
         go : (b : Bool) → ltb (bad_sort table) (sort_count table) ≡ b → is_accepted (cond b (SortTable (bad_sort table)) Accepted) ≡ true
             → k < bad_sort table

@@ -44,7 +44,11 @@ plain = record { index = λ array. 32; cell = λ array. 8 }
 -- "the first edition, 32 and 8 for every array"; in the second "a Select takes its widths from there"
 abbrev pub sorts_of : Edition → Sorts
 sorts_of first_edition = plain
-sorts_of (second_edition table) = record { index = λ array. index_at table (entry_of table array); cell = λ array. cell_at table (entry_of table array) }
+sorts_of (second_edition table) = record {
+  index = λ array. index_at table (entry_of table array);
+  cell = λ array. cell_at table
+      (entry_of table array);
+}
 
 -- "strictly rising by array"
 abbrev pub rises : List ℕ → ℕ → Bool

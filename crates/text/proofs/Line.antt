@@ -1,5 +1,6 @@
 -- The steps of the loops: one more digit, one more word. Assumes nothing.
-use Rattle.std.proofs.Common.{◌≡◌, ℕ, suc, ◌+◌, ◌-◌, ◌*◌, ◌%◌, ◌^◌, ◌<◌, ◌≤◌, true, false, List, [], ◌∷◌, ◌++◌, length, get_or, take, drop, set, ap, ◌∙◌, add-one, arith, drop_of_length-le, drop-cons, take-suc-set, le-ltb, lt-ltb, eq-eqb, ne_eqb}
+use Rattle.std.proofs.Common.{◌≡◌, ℕ, suc, ◌+◌, ◌-◌, ◌*◌, ◌%◌, ◌^◌, ◌<◌, ◌≤◌, true, false, List, [], ◌∷◌, ◌++◌, length, get_or, take, drop, set, ap}
+use Rattle.std.proofs.Common.{◌∙◌, add-one, arith, drop_of_length-le, drop-cons, take-suc-set, le-ltb, lt-ltb, eq-eqb, ne_eqb}
 use native.Mathlib.Nat.{mod-add-mod}
 use Rattle.text.specs.declared.Token.{Token}
 use Rattle.text.specs.Line.{digit_of, digits, number, good_digits, word_ends, no_token, token, words_from}

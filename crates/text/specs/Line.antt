@@ -1,5 +1,6 @@
 -- A line's words: lower-case hexadecimal numbers with single spaces between, no 0 in front of other digits. Assumes nothing.
-use Rattle.std.specs.Prelude.{ℕ, zero, suc, ◌+◌, ◌-◌, ◌*◌, ◌%◌, ◌^◌, Bool, true, false, cond, not, List, [], ◌∷◌, ◌++◌, length, take, drop, ◌==◌, nat_le, nat_lt, slice_index}
+use Rattle.std.specs.Prelude.{ℕ, zero, suc, ◌+◌, ◌-◌, ◌*◌, ◌%◌, ◌^◌, Bool, true, false, cond, not, List, [], ◌∷◌, ◌++◌, length, take, drop, ◌==◌}
+use Rattle.std.specs.Prelude.{nat_le, nat_lt, slice_index}
 use Rattle.text.specs.declared.Token.{Token}
 
 -- the value of a digit, 0 to 9 (48 to 57) or a to f (97 to 102), and 16 for any other byte

@@ -9,7 +9,8 @@ use Rattle.bodies.proofs.load.Given as goal
 
 abbrev pub invariant-loop-i : goal.invariant-loop-i
 invariant-loop-i l =
-    (l.i ≤ sections l.book) × (l.at ≡ length (loaded l.book l.i)) × (length l.words ≡ length l.initial.words) × (l.words ≡ filled l.book l.initial.words l.i)
+    (l.i ≤ sections l.book) × (l.at ≡ length (loaded l.book l.i)) × (length l.words ≡ length l.initial.words)
+    × (l.words ≡ filled l.book l.initial.words l.i)
 
 abbrev pub decreases-loop-i : goal.decreases-loop-i
 decreases-loop-i l = l.n - l.i

@@ -1,3 +1,4 @@
+-- The goals that search leaves open. Assumes nothing.
 use Prim.Native.Nat.{◌≤◌, ◌+◌}
 use native.Mathlib.Omega.{arith}
 use Rattle.bodies.proofs.Words.{loaded-none, offset-more, loaded-fits}

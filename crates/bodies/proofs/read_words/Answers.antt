@@ -1,3 +1,4 @@
+-- The goals that search leaves open. Assumes nothing.
 use native.Mathlib.Omega.{arith}
 use Prim.Native.Nat.{◌<◌}
 use lib.ListN.{length}

@@ -1,3 +1,4 @@
+-- The goals that search leaves open. Assumes nothing.
 use Prim.Native.Nat.{◌≤◌, ◌<◌}
 use mathlib.Core.Path.{sym, ◌∙◌}
 use native.Mathlib.Nat.{not-suc-le-zero}
@@ -38,7 +39,8 @@ returns-then-bad_section c = record {
 pub end_of-due-requires : goal.end_of-due-requires
 end_of-due-requires c = record {
   i_bound = let s = c.before.before.before.before.before in (omega (arith, c.loop-i-test.true, s.requires.0), s.requires.1);
-  i_in_bounds = let s = c.before.before.before.before.before in (good-section s.args.book.now c.loop-i.i (sym c.bad_section.ensures.test ∙ c.if-bad_section.false)).within;
+  i_in_bounds = let s = c.before.before.before.before.before in
+      (good-section s.args.book.now c.loop-i.i (sym c.bad_section.ensures.test ∙ c.if-bad_section.false)).within;
 }
 
 pub loop-i-preserved : goal.loop-i-preserved

@@ -1,3 +1,4 @@
+-- The goals that search leaves open. Assumes nothing.
 use Prim.Native.Nat.{ℕ, ◌+◌, ◌*◌, ◌≤◌, ◌-◌}
 use mathlib.Core.Path.{◌≡◌, refl, ◌∙◌, sym, ap}
 use mathlib.Core.Bool.{Bool, true}
@@ -11,7 +12,8 @@ use Rattle.pairs.proofs.Walk.{row-end, row-skip, row_on, row-stop, root-inside}
 use Rattle.congruence.proofs.Even.{one_function_lem}
 use Rattle.congruence.proofs.uf_cong_for.Goals as goal
 use Rattle.congruence.proofs.uf_cong_for.Goals.{In-loop-l, After-function_is, After-same_function, After-call_stands}
-use Rattle.congruence.proofs.uf_cong_for.Goals.{then-function_is+then-call_stands, then-function_is+else-call_stands+else-same_function, else-function_is}
+use Rattle.congruence.proofs.uf_cong_for.Goals.{then-function_is+then-call_stands, then-function_is+else-call_stands+else-same_function}
+use Rattle.congruence.proofs.uf_cong_for.Goals.{else-function_is}
 
 pub overflow_mul-at : goal.overflow_mul-at
 overflow_mul-at c = omega (arith, (c.requires.calls_in _ c.requires.k_bound).0)

@@ -1,3 +1,4 @@
+-- The goals that search leaves open. Assumes nothing.
 use mathlib.Core.Path.{sym, ap}
 use mathlib.Core.Bool.{not}
 use borrow.Author.Count.{below_more}

@@ -1,3 +1,4 @@
+-- The goals that search leaves open. Assumes nothing.
 use native.Mathlib.Nat.{not-suc-le-zero}
 use mathlib.Core.Path.{sym}
 use borrow.Author.Count.{below_more}

@@ -1,3 +1,4 @@
+-- The goals that search leaves open. Assumes nothing.
 use native.Mathlib.Nat.{not-suc-le-zero, le_trans}
 use native.Mathlib.Omega.{arith}
 use borrow.Author.Count.{below_more}

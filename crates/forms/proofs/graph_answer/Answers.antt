@@ -26,7 +26,8 @@ returns-then-row0-row_count c = record {
   answer =
       let s = (goal.at.returns-then-row0-row_count c).Start in
       rw c.bad_row-row0.ensures.row
-      (sym (bad-source c.args.sort (source s) (target s) _ _ (rw (c.bad_row-row0.ensures.row, c.row_count.ensures.count) at c.if-row0-row_count.true)));
+      (sym (bad-source c.args.sort (source s) (target s) _ _ (rw (c.bad_row-row0.ensures.row, c.row_count.ensures.count) at
+      c.if-row0-row_count.true)));
 }
 
 -- what each test says: the source's rows are good, the target's rows, the source's bits, the target's bits, the table

@@ -1,3 +1,4 @@
+-- The goals that search leaves open. Assumes nothing.
 use mathlib.Core.Path.{◌∙◌, sym}
 use Rattle.images.proofs.Agree.{agreed-none, agreed-more, agreed-no, agreed-all}
 use Rattle.keys.proofs.arg_widths_eq.Goals as goal

@@ -1,3 +1,4 @@
+-- The goals that search leaves open. Assumes nothing.
 use Prim.Native.Nat.{ℕ, suc, ◌-◌, ◌/◌, ◌^◌, ◌<◌}
 use mathlib.Core.Path.{◌≡◌, sym, ap, ◌∙◌}
 use mathlib.Core.List.{[], append-nil}
@@ -45,5 +46,6 @@ returns c = record {
   start = let l = c.loop-rest in
       let h : l.at < length l.out = omega (arith, l.invariant.1) in omega arith;
   digits = let l = c.loop-rest in
-      let h : l.at < length l.out = omega (arith, l.invariant.1) in rw c.digit-2.ensures.ascii (spell-done l.out l.at l.rest _ h l.invariant.3 (omega arith));
+      let h : l.at < length l.out = omega (arith, l.invariant.1) in
+      rw c.digit-2.ensures.ascii (spell-done l.out l.at l.rest _ h l.invariant.3 (omega arith));
 }

@@ -5,7 +5,8 @@ use Rattle.sorts.proofs.lower_bound.Given as goal
 
 abbrev pub invariant-loop-low : goal.invariant-loop-low
 invariant-loop-low l =
-    (l.low ≤ l.high) × (l.high ≤ l.n) × ((k : ℕ) → k < l.low → array_at l.table k < l.array) × ((k : ℕ) → l.high ≤ k → k < l.n → l.array ≤ array_at l.table k)
+    (l.low ≤ l.high) × (l.high ≤ l.n) × ((k : ℕ) → k < l.low → array_at l.table k < l.array) × ((k : ℕ) → l.high ≤ k → k < l.n
+    → l.array ≤ array_at l.table k)
 
 abbrev pub decreases-loop-low : goal.decreases-loop-low
 decreases-loop-low l = l.high - l.low

@@ -1,3 +1,4 @@
+-- The goals that search leaves open. Assumes nothing.
 use Rattle.std.proofs.Common.{◌-◌, sym, refl, ◌∙◌, arith}
 use Rattle.text.proofs.Line.{digits-past, digits-stop, digits_more}
 use Rattle.text.proofs.digits_end.Goals as goal

@@ -1,3 +1,4 @@
+-- The goals that search leaves open. Assumes nothing.
 use Rattle.std.proofs.Common.{◌+◌, ◌-◌, ◌<◌, ◌≤◌, length, take, set, sym, refl, ◌∙◌, arith, length-set}
 use native.Mathlib.Nat.{sub-zero}
 use Rattle.io.proofs.Counting.{prefix_len_of_le}
@@ -31,7 +32,8 @@ returns-then-line-t c = record {
       let a = c.args in
       let h : l.n < length a.out.now = omega arith in
       let t = c.next_word-t in
-      let r : l.n + 1 ≤ length (set l.out l.n t.result.value) = simp length-set (omega arith) in words_last a.line.now l.at l.n _ l.out h t.result t.ensures.word.0 c.if-t-eq0.false l.invariant.2
+      let r : l.n + 1 ≤ length (set l.out l.n t.result.value) = simp length-set (omega arith) in
+      words_last a.line.now l.at l.n _ l.out h t.result t.ensures.word.0 c.if-t-eq0.false l.invariant.2
       c.if-line-t.true ∙ sym l.invariant.3;
 }
 

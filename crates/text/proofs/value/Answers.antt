@@ -1,3 +1,4 @@
+-- The goals that search leaves open. Assumes nothing.
 use Rattle.std.proofs.Common.{◌-◌, sym, refl, ◌∙◌, arith}
 use Rattle.text.proofs.Line.{number-done, number_more}
 use Rattle.text.proofs.value.Goals as goal
