@@ -1,7 +1,7 @@
 #!/usr/bin/env python3
 """believe.py [NAME..]: the definitions that a statement stands on, in reading order, with their lines.
 
-A statement is a definition in some crate's specs/, by default `Sound`, `held` and `lineOf`: what
+A statement is a definition in some crate's specs/, by default `Sound`, `held` and `line_of`: what
 verdict's line `accepted` says. Lines are those of code; comments and empty lines are not counted.
 Only definitions are followed, never a proof. The kit's library (numbers, lists, Booleans) is not listed.
 """
@@ -12,7 +12,7 @@ import sys
 
 TOP = os.path.dirname(os.path.dirname(os.path.abspath(__file__)))
 WORD = re.compile(r"[^\s(){}\[\].,;:λ→×∷=⌜⌝]+")
-STATEMENTS = ("Sound", "held", "lineOf")
+STATEMENTS = ("Sound", "held", "line_of")
 
 
 class Block:
@@ -66,7 +66,7 @@ def specs():
                     names[name_of(code[0])] = Block(crate, module, path, at, run)
             used[crate, module] = [
                 (of, where.split(".")[0] if not where.startswith("declared") else "declared", what)
-                for of, where, what in re.findall(r"use Rattle·(\w+)(?:·specs)?\.specs\.([\w.-]+?)(?:\.the-variants)?\.\{([^}]*)\}",
+                for of, where, what in re.findall(r"use Rattle\.(\w+)\.specs\.([\w.-]+?)(?:\.TheVariants)?\.\{([^}]*)\}",
                                                   "\n".join(lines))]
         declared = defined[crate, "declared"] = {}
         for path in sorted(glob.glob(os.path.join(TOP, "crates", crate, "src", "*.rt"))):

@@ -27,7 +27,7 @@ def listed():
     """Each crate of crates.txt with what it lists, in order."""
     lines = (line.partition("#")[0] for line in read(os.path.join(TOP, "crates.txt")).split("\n"))
     parts = (line.partition(":") for line in lines if ":" in line)
-    return {name.strip(): words.split() for name, _, words in parts}
+    return {name.split()[0]: words.split() for name, _, words in parts}
 
 
 def files(*kinds, crate="*"):
@@ -58,9 +58,10 @@ class Crates(unittest.TestCase):
         for crate, words in listed().items():
             named = set()
             for path in files("src", "specs", "proofs", crate=crate):
-                named |= set(re.findall(r"Rattle·(\w+)\.", code(path)))
+                named |= set(re.findall(r"(?<![\w.])Rattle\.(\w+)\.", code(path)))
                 if path.endswith(".rt"):
-                    named |= set(re.findall(r"(?<![\w:])(\w+)::", code(path)))
+                    own = set(re.findall(r"(?<![\w:])(\w+)::", code(path)))
+                    named |= own - {"io"} if "use std::io" in code(path) else own
             self.assertEqual(sorted((named & known) - KIT - {crate}), sorted(words), crate)
 
     def test_lower_crates_first(self):
@@ -91,7 +92,7 @@ class Edits(unittest.TestCase):
 class Definitions(unittest.TestCase):
     # what the operations and programs answer, what is promised of it, and what the theorems' page names
     STATEMENTS = ("check", "judge", "verdict", "source_widths", "target_widths", "roots_answer", "values", "section_answer",
-                  "section", "lineOf", "Sound", "SameChoices", "WellFormed", "assignment", "interpretation", "Agrees", "wordsIn",
+                  "section", "line_of", "Sound", "SameChoices", "WellFormed", "assignment", "interpretation", "Agrees", "words_in",
                   "end_bare", "call_bare")
 
     def test_the_rest_is_inner(self):
@@ -110,10 +111,10 @@ class Table(unittest.TestCase):
     def test_line_for_line(self):
         code = re.findall(r"(?m)^    Line\(operand::(\w+), join::(\w+), source::(\w+)\), // (\d+) (\w+)$",
                           read(os.path.join(self.CODE, "lines.rt")))
-        defined = re.findall(r"(?m)^    (?:∷ )?line o(\w+) j(\w+) s(\w+)  -- (\d+) (\w+)$",
+        defined = re.findall(r"(?m)^    (?:∷ )?line o_(\w+) j_(\w+) s_(\w+)  -- (\d+) (\w+)$",
                              read(os.path.join(CRATES, "rules", "specs", "Table.antt")))
         plain = [tuple(part.replace("_", "").lower() for part in line) for line in code]
-        self.assertEqual(plain, [tuple(part.lower() for part in line) for line in defined])
+        self.assertEqual(plain, [tuple(part.replace("_", "").lower() for part in line) for line in defined])
         tags = re.findall(r"(?m)^pub const (\w+): u64 = (\d+);$", read(os.path.join(CRATES, "rows", "src", "tag.rt")))
         self.assertEqual([line[3:] for line in plain],
                          [(number, name.replace("_", "").lower()) for name, number in tags])
@@ -122,9 +123,9 @@ class Table(unittest.TestCase):
         defined = read(os.path.join(CRATES, "rules", "specs", "Table.antt"))
         for letter, kind in self.KINDS.items():
             code = re.findall(r"(?m)^pub const (\w+): u8 = (\d+);$", read(os.path.join(self.CODE, kind + ".rt")))
-            names = re.findall(rf"(?m)^{letter}([A-Z]\w*) = (\d+)$", defined)
+            names = re.findall(rf"(?m)^{letter}_(\w+) = (\d+)$", defined)
             self.assertEqual([(name.replace("_", "").lower(), number) for name, number in code],
-                             [(name.lower(), number) for name, number in names], kind)
+                             [(name.replace("_", "").lower(), number) for name, number in names], kind)
 
 
 class Text(unittest.TestCase):
