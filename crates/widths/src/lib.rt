@@ -26,13 +26,13 @@ fn row_widths(
 ) -> Answer
     requires good { Good (edition second sorts.now) }
     requires g_in_bounds { row_count graph g.now ≤ length ws.old }
-    ensures* outcome { λ r. ⌜ result_of r (ws.new ∷ []) ≡ leaves (rows_answer graph g.now bits.now
+    ensures outcome { result_of result (ws.new ∷ []) ≡ leaves (rows_answer graph g.now bits.now
         (ill_row (sorts_of (edition second sorts.now)) graph (length bits.now) side.now g.now))
         ((
           ws.old,
           widths (sorts_of (edition second sorts.now)) graph (length bits.now) side.now
               g.now,
-        ) ∷ []) ⌝ }
+        ) ∷ []) }
 {
     let n = rows::row_count(graph, g);
     let stop = wf::graph_wf(graph, g, bits.len() as u64, side, second, sorts, ws);
@@ -59,8 +59,8 @@ fn graph_widths(
     sorts: &[u64],
     ws: &mut [u64],
 ) -> Answer
-    ensures* outcome { λ r. ⌜ result_of r (ws.new ∷ []) ≡ graph_widths (edition second sorts.now) graph g.now
-        bits.now side.now ws.old ⌝ }
+    ensures outcome { result_of result (ws.new ∷ []) ≡ graph_widths (edition second sorts.now) graph g.now
+        bits.now side.now ws.old }
 {
     if rows::is_ragged(graph, g) {
         return Answer::RowCount(rows::graph_number(graph));
@@ -85,21 +85,21 @@ pub fn source_widths(
     sorts: &[u64],
     ws: &mut [u64],
 ) -> Answer
-    ensures* outcome { λ r. ⌜ result_of r (ws.new ∷ []) ≡ graph_widths (edition second sorts.now) Graph.Source
-        source.now bits.now side.now ws.old ⌝ }
+    ensures outcome { result_of result (ws.new ∷ []) ≡ graph_widths (edition second sorts.now) Graph.Source
+        source.now bits.now side.now ws.old }
 {
     graph_widths(Graph::Source, source, bits, side, second, sorts, ws)
 }
 
 pub fn target_widths(target: &[u64], bits: &[u8], ws: &mut [u64]) -> Answer
-    ensures* outcome { λ r. ⌜ result_of r (ws.new ∷ []) ≡ target_widths target.now bits.now ws.old ⌝ }
+    ensures outcome { result_of result (ws.new ∷ []) ≡ target_widths target.now bits.now ws.old }
 {
     let none = &target[0..0];
     graph_widths(Graph::Target, target, bits, none, false, none, ws)
 }
 
 pub fn roots(ws: &[u64], roots: &[u64]) -> Answer
-    ensures* answer { λ r. ⌜ r ≡ roots_answer ws.now roots.now ⌝ }
+    ensures answer { result ≡ roots_answer ws.now roots.now }
 {
     let position = wf::roots_wf(ws, roots);
     if position < roots.len() {
