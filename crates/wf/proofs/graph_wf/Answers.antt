@@ -21,5 +21,7 @@ returns c =
     let told = c.rows_wf.ensures in
     let (reached, stops) =
     told.part plain s.ws.now (λ i h k t. (refl, refl)) (at-start plain s.graph s.nbits s.side.now s.g.now s.ws.now) in
-    rw c.if-second.false
-    (at-stop _ _ _ _ _ _ _ _ reached (omega (arith, e, told.place.1)) (λ h. stops (omega (arith, e, h))))
+    let p =
+    at-stop plain s.graph s.nbits s.side.now s.g.now s.ws.now c.rows_wf.new.ws c.rows_wf.result reached (omega (arith, e, told.place.1))
+    (λ h. stops (omega (arith, e, h))) in
+    record { row = rw c.if-second.false p.0; list = rw c.if-second.false p.1 }

@@ -1,6 +1,6 @@
 use Prim.Native.Nat.{◌-◌}
-use mathlib.Core.Path.{sym}
-use mathlib.Core.Bool.{false}
+use mathlib.Core.Path.{◌∙◌, sym, ap}
+use mathlib.Core.Bool.{false, not}
 use native.Mathlib.Nat.{not-suc-le-zero}
 use native.Mathlib.Omega.{arith}
 use borrow.Author.Count.{below_more}
@@ -17,11 +17,11 @@ returns-then-not-has_width c = record {
   position =
       let s = c.args in
       sym (first-at (root_bad s.ws.now s.roots.now) _ _ c.loop-r-test.true
-      (rw c.has_width.ensures.test at c.if-not-has_width.true) c.loop-r.invariant.1);
+      (ap not (sym c.has_width.ensures.test ∙ c.if-not-has_width.true)) c.loop-r.invariant.1);
 }
 
 pub loop-r-preserved : goal.loop-r-preserved
-loop-r-preserved c = (omega arith, below_more _ _ c.loop-r.invariant.1 (rw c.has_width.ensures.test at c.if-not-has_width.false))
+loop-r-preserved c = (omega arith, below_more _ _ c.loop-r.invariant.1 (ap not (sym c.has_width.ensures.test ∙ c.if-not-has_width.false)))
 
 pub returns : goal.returns
 returns c = record {

@@ -20,6 +20,7 @@ use Rattle.wf.proofs.Parts.{part-width}
 use Rattle.wf.specs.Widths.{row_width, widths_to}
 use Rattle.wf.specs.Pass.{good_width, row_stops, OneSort, Reached}
 use Rattle.wf.proofs.rows_wf.Goals as goal
+use Rattle.wf.proofs.rows_wf.Goals.{After-line_width-w}
 
 -- a width stored behind those before it
 stored : (f : ℕ → List ℕ → ℕ) (ws₀ ws : List ℕ) (i w : ℕ) → ws ≡ build f i ++ drop i ws₀ → w ≡ f i (build f i) → i < length ws₀
@@ -54,87 +55,84 @@ offset_bounds-lines-t c = let h = tag_in c in record { fits = omega (arith, h) }
 pub bounds-lines-t : goal.bounds-lines-t
 bounds-lines-t c = tag_in c
 
--- from a row's width: its turn of the loop, and where the function was entered
-abbrev turn : goal.After-line_width-w → goal.At-loop-i
-turn c = c.before.before.before.before.before.before
-
-abbrev entry : goal.After-line_width-w → goal.Start
-entry c = (turn c).before.before.before.before.before
-
 pub slice_bounds-line_width-end : goal.slice_bounds-line_width-end
 slice_bounds-line_width-end c =
     let p = c.requires.from_le_to in
     omega (arith, c.loop-i-test.true, c.loop-i.invariant.2, p.1, p.2)
 
 pub slice_bounds-line_width-end-in-loop-i : goal.slice_bounds-line_width-end-in-loop-i
-slice_bounds-line_width-end-in-loop-i c = sym (length-take-le _ _ (slice-reshare-prefix-line-width c.before))
+slice_bounds-line_width-end-in-loop-i c =
+    let p = c.requires.from_le_to in
+    let within : c.loop-i.i ≤ length c.loop-i.ws = omega (arith, c.loop-i-test.true, c.loop-i.invariant.2, p.1, p.2) in
+    sym (length-take-le _ _ within)
 
 -- what the call gives, over the widths before row i, within the ceiling
-width_is : (c : goal.After-line_width-w)
-    → let s = (entry c).args in
-    let l = (turn c).loop-i in
+width_is : (c : After-line_width-w)
+    → let s = c.args in
+    let l = c.loop-i in
     (σ : Sorts) (base : List ℕ) → OneSort σ s.graph s.g.now s.from s.to s.sort.index s.sort.cell
     → Reached σ s.graph s.nbits s.side.now s.g.now base l.ws l.i
     → capped c.line_width-w.result
     ≡ good_width σ s.graph s.nbits s.side.now s.g.now l.i (widths_to σ s.graph s.nbits s.side.now s.g.now l.i)
 width_is c σ base one reached =
-    let s = (entry c).args in
-    let l = (turn c).loop-i in
+    let s = c.args in
+    let l = c.loop-i in
     let row = c.row-r in
     ap capped c.line_width-w.ensures.width
-    ∙ line-good (every s.sort.index s.sort.cell) s.graph s.nbits s.side.now s.g.now l.i (take l.i l.ws) s.t1
-    row.result (entry c).requires.lines_value row.ensures.row (below c.before.before.before)
+    ∙ line-good (every s.sort.index s.sort.cell) s.graph s.nbits s.side.now s.g.now l.i (take l.i l.ws) s.lines
+    row.result c.requires.lines_value row.ensures.row
+    (rw c.tag_count-tags.ensures.count at c.if-tags-r.false)
     ∙ part-width σ s.graph s.nbits s.side.now s.g.now s.from s.to s.sort.index s.sort.cell l.i (take l.i l.ws)
-    one l.inv.0 c.loop-i-test.true
+    one l.invariant.0 c.loop-i-test.true
     ∙ ap (good_width σ s.graph s.nbits s.side.now s.g.now l.i) (ap (take l.i) reached.list ∙ build-front _ l.i _)
 
 -- a row without one is where the pass stops
-stops : (c : goal.After-line_width-w) → capped c.line_width-w.result ≡ 0
-    → let s = (entry c).args in
-    let l = (turn c).loop-i in
+stops : (c : After-line_width-w) → capped c.line_width-w.result ≡ 0
+    → let s = c.args in
+    let l = c.loop-i in
     ((s.from ≤ l.i) × (l.i ≤ s.to)) ×
     ((σ : Sorts) (base : List ℕ) → OneSort σ s.graph s.g.now s.from s.to s.sort.index s.sort.cell
     → Reached σ s.graph s.nbits s.side.now s.g.now base s.ws.now s.from
     → Reached σ s.graph s.nbits s.side.now s.g.now base l.ws l.i
     × (l.i < s.to → row_stops σ s.graph s.nbits s.side.now s.g.now l.i ≡ true))
 stops c e =
-    let l = (turn c).loop-i in (
-      (l.inv.0, l.inv.1),
+    let l = c.loop-i in (
+      (l.invariant.0, l.invariant.1),
       λ σ base one start.
-          let reached = l.inv.3 σ base one start in
+          let reached = l.invariant.3 σ base one start in
           (reached, λ h. eq-eqb _ _ (sym (width_is c σ base one reached) ∙ e)),
     )
 
 pub returns-then-w-eq0 : goal.returns-then-w-eq0
-returns-then-w-eq0 c = stops c.before (ap capped c.if-w-eq0.true)
+returns-then-w-eq0 c =
+    let p = stops (goal.at.returns-then-w-eq0 c).After-line_width-w (ap capped c.if-w-eq0.true) in record { place = p.0; part = p.1 }
 
 pub returns-then-w-gt-CEILING : goal.returns-then-w-gt-CEILING
 returns-then-w-gt-CEILING c =
-    let told = c.before.before in
-    stops told (capped-over told.line_width-w.result (omega arith))
+    let p = stops (goal.at.returns-then-w-gt-CEILING c).After-line_width-w (capped-over c.line_width-w.result (omega arith)) in
+    record { place = p.0; part = p.1 }
 
 pub bounds-ws-i : goal.bounds-ws-i
 bounds-ws-i c =
-    let told = c.before.before in
-    let p = (entry told).requires.from_le_to in
-    omega (arith, told.loop-i-test.true, (turn told).loop-i.invariant.2, p.1, p.2)
+    let p = c.requires.from_le_to in
+    omega (arith, c.loop-i-test.true, c.loop-i.invariant.2, p.1, p.2)
 
 -- the next row is reached
-on : (c : goal.After-line_width-w) → (c.line_width-w.result ≡ 0 → ⊥) → c.line_width-w.result ≤ 4096
-    → let s = (entry c).args in
-    let l = (turn c).loop-i in
+on : (c : After-line_width-w) → (c.line_width-w.result ≡ 0 → ⊥) → c.line_width-w.result ≤ 4096
+    → let s = c.args in
+    let l = c.loop-i in
     (σ : Sorts) (base : List ℕ) → OneSort σ s.graph s.g.now s.from s.to s.sort.index s.sort.cell
     → Reached σ s.graph s.nbits s.side.now s.g.now base s.ws.now s.from
     → Reached σ s.graph s.nbits s.side.now s.g.now base (set l.ws l.i c.line_width-w.result) (l.i + 1)
 on c some in-ceiling σ base one start =
-    let s = (entry c).args in
-    let l = (turn c).loop-i in
-    let reached = l.inv.3 σ base one start in
+    let s = c.args in
+    let l = c.loop-i in
+    let reached = l.invariant.3 σ base one start in
     let width = sym (capped-in c.line_width-w.result in-ceiling) ∙ width_is c σ base one reached in
     let goes = ne_eqb _ _ (λ z. some (width ∙ z)) in
-    let p = (entry c).requires.from_le_to in
+    let p = c.requires.from_le_to in
     let room : l.i < length base =
-    omega (arith, reached.whole, l.inv.2, c.loop-i-test.true, p.1, p.2) in
+    omega (arith, reached.whole, l.invariant.2, c.loop-i-test.true, p.1, p.2) in
     record {
       whole = simp length-set reached.whole;
       list = stored (row_width σ s.graph s.nbits s.side.now s.g.now) base l.ws l.i _ reached.list
@@ -144,9 +142,8 @@ on c some in-ceiling σ base one start =
 
 pub loop-i-preserved : goal.loop-i-preserved
 loop-i-preserved c =
-    let told = c.before.before in
-    let l = (turn told).loop-i in
-    (omega arith, omega arith, simp length-set l.inv.2, on told c.if-w-eq0.false (omega arith))
+    let l = c.loop-i in
+    (omega arith, omega arith, simp length-set l.invariant.2, on (goal.at.loop-i-preserved c).After-line_width-w c.if-w-eq0.false (omega arith))
 
 pub returns : goal.returns
 returns c = record {
