@@ -1,6 +1,5 @@
 use Prim.Native.Nat.{◌+◌, ◌*◌, ◌-◌}
 use mathlib.Core.Path.{◌∙◌, sym, ap}
-use mathlib.Core.Logic.{⊎_elim}
 use native.Mathlib.Nat.{add-zero, sub-zero}
 use native.Mathlib.Omega.{arith}
 use Rattle.lowering.specs.declared.Walk.{Walk}
@@ -33,16 +32,13 @@ pair_step-step-requires c = record {
 
 pub pairs-preserved : goal.pairs-preserved
 pairs-preserved c =
-    let at-map-at = c.before.before.before.before.before.before in
-    let at_row = at-map-at.before in
-    let at-start = at_row.before.before.before.before.before.before.before in
-    let s = at-start.args in
+    let s = c.args in
     let w = along (source_graph s.source.now s.ebits.now s.eside.now) s.map.now s.target.now s.j in
     let l = c.pairs in (
       omega arith,
       l.invariant.1 ∙ walk_step _ _ _ _ s.k s.s l.l l.row c.if-k-l.false
           ∙ ap (λ (z : Walk). onward z (w (s.k - (l.l + 1)) (s.s + 2 * (l.l + 1))))
-          (sym (rw (at_row.row-q.ensures.row, at-map-at.map_at-b.ensures.row) at c.pair_step-step.ensures.step)
+          (sym (rw (c.row-q.ensures.row, c.map_at-b.ensures.row) at c.pair_step-step.ensures.step)
           ∙ c.in-RanOut.is),
     )
 
@@ -57,16 +53,11 @@ returns-then-k-l c = record {
 pub returns-in_default : goal.returns-in_default
 returns-in_default c = record {
   stop =
-      let at-else1 = c.before.before.before.before.before.before in
-      let at-start = at-else1.before.before.before.before.before.before in
-      let s = at-start.args in
+      let s = c.args in
       let w = along (source_graph s.source.now s.ebits.now s.eside.now) s.map.now s.target.now s.j in
       let l = c.pairs in
       sym (l.invariant.1 ∙ walk_step _ _ _ _ s.k s.s l.l l.row c.if-k-l.false
       ∙ ap (λ (z : Walk). onward z (w (s.k - (l.l + 1)) (s.s + 2 * (l.l + 1))))
-      (sym (rw (
-        c.row-q.ensures.row,
-        c.map_at-b.ensures.row,
-      ) at c.pair_step-step.ensures.step))
-      ∙ onward-stays _ _ (λ z e. ⊎_elim (λ h. omega arith) (λ h. omega arith) (rw e at c.in_default.keys2)));
+      (sym (rw (c.row-q.ensures.row, c.map_at-b.ensures.row) at c.pair_step-step.ensures.step))
+      ∙ onward-stays _ _ c.in_default.not-RanOut);
 }
