@@ -98,7 +98,8 @@ module _ (g bits given : List ℕ) where
     row_number j =
         ap (λ (os : List Val). nat (cond (eqb (tag_of node) t_var) (val (get_or (parameters bits node) 0 0) (get_or given i 0))
         (operate (tag_of node) (parameters bits node) os)))
-        (map_below i (lookup ws (numbers_to g bits given i)) (λ a. get_or (values_to bits (λ i. get_or given i 0) g i) a (val 0 0)) looked (operands node)
+        (map_below i (lookup ws (numbers_to g bits given i)) (λ a. get_or (values_to bits (λ i. get_or given i 0) g i) a (val 0 0)) looked
+        (operands node)
         (E.formed i h).earlier)
       where
         node : Node

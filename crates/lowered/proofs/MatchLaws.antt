@@ -19,7 +19,8 @@ use Rattle.wf.specs.Widths.{row_width}
 use Rattle.lowering.specs.Tables.{read_count, call_count, read_classes, call_classes, read_offsets, call_offsets}
 use Rattle.lowering.specs.Matching.{noted, classes_to, refused_row, all_rows_answer, dead_entry}
 use Rattle.lowering.specs.Lowering.{array_sorts, Lowering, source_rows, target_rows, binding_of, entries_of}
-use Rattle.lowering.specs.Check.{widths_of_target, no_classes, classes_of_reads, classes_of_tables, classes, offsets, answer_of, mismatch, rows_refusal}
+use Rattle.lowering.specs.Check.{widths_of_target, no_classes, classes_of_reads, classes_of_tables, classes, offsets, answer_of, mismatch}
+use Rattle.lowering.specs.Check.{rows_refusal}
 use Rattle.lowering.specs.Check.{dead_variable, refuse, first_refusal, table_answers, root_answers, match_answers}
 use Rattle.lowering.proofs.Inversion.{each, not-refused, all_pass, first-refused}
 use Rattle.lowering.proofs.Refusals.{refusal-append}

@@ -58,7 +58,8 @@ cases-1 : lent-nines (base (2 ∷ []) (0 ∷ 1 ∷ 2 ∷ []) (1 ∷ 7 ∷ 0 ∷ 
     ∷ result_of (ChainMismatch 1) (zeros ∷ zeros ∷ zeros ∷ zeros ∷ [])
     ∷ result_of (WorkShort 4) (nines ∷ nines ∷ nines ∷ (9 ∷ 9 ∷ []) ∷ [])
     ∷ []
-unfolding first_refusal build first all agree trace row_is both_const same_const unequal_const same_read same_function same_call read_good call_good is_eq
+unfolding first_refusal build first all agree trace row_is both_const same_const unequal_const same_read same_function same_call read_good
+    call_good is_eq
     is_level walk end_good call_matches var_matches node_matches row_answer row_classes leads pairs_with pairs reads_need all_equal congruent root_at
 cases-1 = refl
 
@@ -73,7 +74,8 @@ cases-2-to-7 : answer (base (2 ∷ []) (0 ∷ 1 ∷ MAX ∷ []) (1 ∷ 7 ∷ 0 �
     ∷ answer (base (2 ∷ []) (0 ∷ 1 ∷ 2 ∷ []) (1 ∷ 7 ∷ 0 ∷ []) (2 ∷ 2 ∷ []))
     ∷ []
     ≡ words 12 0 0 ∷ words 14 1 0 ∷ words 10 1 0 ∷ words 5 1 0 ∷ words 3 3 2 ∷ words 4 2 0 ∷ words 12 0 0 ∷ []
-unfolding first_refusal build first all agree trace row_is both_const same_const unequal_const same_read same_function same_call read_good call_good is_eq
+unfolding first_refusal build first all agree trace row_is both_const same_const unequal_const same_read same_function same_call read_good
+    call_good is_eq
     is_level walk end_good call_matches var_matches node_matches row_answer row_classes leads pairs_with pairs reads_need all_equal congruent root_at
 cases-2-to-7 = refl
 
@@ -83,7 +85,8 @@ cases-12 : answer (base (2 ∷ 2 ∷ []) (0 ∷ 1 ∷ 2 ∷ []) (1 ∷ 7 ∷ 0 �
     ∷ answer (base (2 ∷ 3 ∷ []) (0 ∷ 1 ∷ 2 ∷ []) (1 ∷ 7 ∷ 0 ∷ []) (2 ∷ MAX ∷ []))
     ∷ []
     ≡ words 12 1 0 ∷ words 12 1 0 ∷ words 12 1 0 ∷ []
-unfolding first_refusal build first all agree trace row_is both_const same_const unequal_const same_read same_function same_call read_good call_good is_eq
+unfolding first_refusal build first all agree trace row_is both_const same_const unequal_const same_read same_function same_call read_good
+    call_good is_eq
     is_level walk end_good call_matches var_matches node_matches row_answer row_classes leads pairs_with pairs reads_need all_equal congruent root_at
 cases-12 = refl
 
@@ -100,7 +103,8 @@ with-variables eroots troots = two-reads eroots (λ m. s5 0 32 0 0 0 (s5 0 32 0 
 
 cases_8 : answer (with-variables [] (7 ∷ [])) ∷ answer (with-variables [] []) ∷ answer (with-variables (2 ∷ []) (2 ∷ 3 ∷ [])) ∷ [] ≡ accepted
     ∷ words 13 0 0 ∷ words 13 1 0 ∷ []
-unfolding first_refusal build first all agree trace row_is both_const same_const unequal_const same_read same_function same_call read_good call_good is_eq
+unfolding first_refusal build first all agree trace row_is both_const same_const unequal_const same_read same_function same_call read_good
+    call_good is_eq
     is_level walk end_good call_matches var_matches node_matches row_answer row_classes leads pairs_with pairs reads_need all_equal congruent root_at
 cases_8 = refl
 
@@ -117,14 +121,16 @@ bits64 a b = a ∷ zeros31 (b ∷ zeros31 [])
 
 cases-9 : answer (with-constants (bits64 0 1) []) ∷ answer (with-constants (bits64 0 1) (7 ∷ [])) ∷ answer (with-constants (bits64 1 1) []) ∷ []
     ≡ accepted ∷ words 12 0 0 ∷ words 13 0 0 ∷ []
-unfolding first_refusal build first all agree trace row_is both_const same_const unequal_const same_read same_function same_call read_good call_good is_eq
+unfolding first_refusal build first all agree trace row_is both_const same_const unequal_const same_read same_function same_call read_good
+    call_good is_eq
     is_level walk end_good call_matches var_matches node_matches row_answer row_classes leads pairs_with pairs reads_need all_equal congruent root_at
 cases-9 = refl
 
 -- one constant index and one variable need their root
 case-one-constant : answer (two-reads [] (λ m. s5 1 0 32 0 0 (s5 0 32 0 0 0 m)) (0 ∷ zeros31 []) (λ m. t4 1 0 32 0 (t4 0 32 0 0 m)) (0 ∷ zeros31 [])
     []) ≡ words 13 0 0
-unfolding first_refusal build first all agree trace row_is both_const same_const unequal_const same_read same_function same_call read_good call_good is_eq
+unfolding first_refusal build first all agree trace row_is both_const same_const unequal_const same_read same_function same_call read_good
+    call_good is_eq
     is_level walk end_good call_matches var_matches node_matches row_answer row_classes leads pairs_with pairs reads_need all_equal congruent root_at
 case-one-constant = refl
 
@@ -136,13 +142,15 @@ one_store a b =
     (t4 0 32 0 0 (t4 0 32 0 0 (t4 0 8 0 0 (t4 0 8 0 0 (t4 19 a b 0 (t4 18 4 2 3 [])))))) [] []
 
 cases-10 : answer (one_store 0 1) ∷ answer (one_store 1 0) ∷ [] ≡ accepted ∷ words 10 3 0 ∷ []
-unfolding first_refusal build first all agree trace row_is both_const same_const unequal_const same_read same_function same_call read_good call_good is_eq
+unfolding first_refusal build first all agree trace row_is both_const same_const unequal_const same_read same_function same_call read_good
+    call_good is_eq
     is_level walk end_good call_matches var_matches node_matches row_answer row_classes leads pairs_with pairs reads_need all_equal congruent root_at
 cases-10 = refl
 
 -- 11. "Two Call(3,8,0,0), target Var(8), map [0,0], calls [0,3,0,0]: accepted"
 case-11 : answer (lowering (s5 38 3 8 0 0 (s5 38 3 8 0 0 [])) [] [] [] (0 ∷ 0 ∷ []) [] (0 ∷ 3 ∷ 0 ∷ 0 ∷ []) [] (t4 0 8 0 0 []) [] []) ≡ accepted
-unfolding first_refusal build first all agree trace row_is both_const same_const unequal_const same_read same_function same_call read_good call_good is_eq
+unfolding first_refusal build first all agree trace row_is both_const same_const unequal_const same_read same_function same_call read_good
+    call_good is_eq
     is_level walk end_good call_matches var_matches node_matches row_answer row_classes leads pairs_with pairs reads_need all_equal congruent root_at
 case-11 = refl
 
@@ -164,7 +172,8 @@ two-calls troots =
 
 cases-stores-calls : answer (two-stores 7 4 6 3) ∷ answer (two-stores 6 3 7 4) ∷ answer (two-calls (7 ∷ [])) ∷ answer (two-calls []) ∷ []
     ≡ accepted ∷ words 10 5 0 ∷ accepted ∷ words 13 0 0 ∷ []
-unfolding first_refusal build first all agree trace row_is both_const same_const unequal_const same_read same_function same_call read_good call_good is_eq
+unfolding first_refusal build first all agree trace row_is both_const same_const unequal_const same_read same_function same_call read_good
+    call_good is_eq
     is_level walk end_good call_matches var_matches node_matches row_answer row_classes leads pairs_with pairs reads_need all_equal congruent root_at
 cases-stores-calls = refl
 
@@ -177,7 +186,8 @@ cases-one-test : answer (lowering (s5 38 3 16 0 0 []) [] [] [] (0 ∷ []) [] (0 
     ∷ answer (lowering (s5 0 32 0 0 0 (s5 0 32 0 0 0 [])) [] [] [] (0 ∷ 0 ∷ []) [] [] [] (t4 0 32 0 0 []) [] [])
     ∷ []
     ≡ words 11 0 0 ∷ words 10 2 0 ∷ words 5 0 0 ∷ words 7 1 0 ∷ []
-unfolding first_refusal build first all agree trace row_is both_const same_const unequal_const same_read same_function same_call read_good call_good is_eq
+unfolding first_refusal build first all agree trace row_is both_const same_const unequal_const same_read same_function same_call read_good
+    call_good is_eq
     is_level walk end_good call_matches var_matches node_matches row_answer row_classes leads pairs_with pairs reads_need all_equal congruent root_at
 cases-one-test = refl
 
@@ -187,7 +197,8 @@ cases-ceiling : answer (lowering (s5 0 4096 0 0 0 []) [] [] [] (0 ∷ []) [] [] 
     ∷ answer (lowering (s5 0 1 0 0 0 []) [] [] [] [] [] [] [] (t4 0 1 0 0 (t4 0 4096 0 0 (t4 15 0 1 0 []))) [] [])
     ∷ []
     ≡ accepted ∷ words 1 0 0 ∷ words 2 2 0 ∷ []
-unfolding first_refusal build first all agree trace row_is both_const same_const unequal_const same_read same_function same_call read_good call_good is_eq
+unfolding first_refusal build first all agree trace row_is both_const same_const unequal_const same_read same_function same_call read_good
+    call_good is_eq
     is_level walk end_good call_matches var_matches node_matches row_answer row_classes leads pairs_with pairs reads_need all_equal congruent root_at
 cases-ceiling = refl
 
@@ -200,7 +211,8 @@ two-results w v k =
 
 cases-results : answer (two-results 8 16 0) ∷ answer (two-results 8 8 0) ∷ answer (two-results 8 16 1) ∷ answer (two-results 8 8 1) ∷ []
     ≡ accepted ∷ words 6 1 0 ∷ accepted ∷ words 6 1 0 ∷ []
-unfolding first_refusal build first all agree trace row_is both_const same_const unequal_const same_read same_function same_call read_good call_good is_eq
+unfolding first_refusal build first all agree trace row_is both_const same_const unequal_const same_read same_function same_call read_good
+    call_good is_eq
     is_level walk end_good call_matches var_matches node_matches row_answer row_classes leads pairs_with pairs reads_need all_equal congruent root_at
 cases-results = refl
 
@@ -217,7 +229,8 @@ three-calls u troots =
     (t4 16 0 (u - 8) 0 (t4 19 10 1 0 (t4 29 11 0 0 (t4 19 3 4 0 (t4 31 12 13 0 []))))))))))))))) [] troots
 
 case-arguments : answer (three-calls 16 (9 ∷ [])) ≡ accepted
-unfolding first_refusal build first all agree trace row_is both_const same_const unequal_const same_read same_function same_call read_good call_good is_eq
+unfolding first_refusal build first all agree trace row_is both_const same_const unequal_const same_read same_function same_call read_good
+    call_good is_eq
     is_level walk end_good call_matches var_matches node_matches row_answer row_classes leads pairs_with pairs reads_need all_equal congruent root_at
 case-arguments = refl
 
@@ -227,7 +240,8 @@ cases-arguments : answer (three-calls 16 [])
     ∷ answer (three-calls 8 (9 ∷ []))
     ∷ []
     ≡ words 13 0 0 ∷ words 13 0 0 ∷ words 12 0 0 ∷ words 13 0 0 ∷ []
-unfolding first_refusal build first all agree trace row_is both_const same_const unequal_const same_read same_function same_call read_good call_good is_eq
+unfolding first_refusal build first all agree trace row_is both_const same_const unequal_const same_read same_function same_call read_good
+    call_good is_eq
     is_level walk end_good call_matches var_matches node_matches row_answer row_classes leads pairs_with pairs reads_need all_equal congruent root_at
 cases-arguments = refl
 
@@ -240,7 +254,8 @@ last-argument u more =
 
 cases_last : answer (last-argument 16 (λ m. m)) ∷ answer (last-argument 8 (λ m. m)) ∷ answer (last-argument 16 (t4 19 1 2 0)) ∷ []
     ≡ accepted ∷ words 13 0 0 ∷ words 2 5 0 ∷ []
-unfolding first_refusal build first all agree trace row_is both_const same_const unequal_const same_read same_function same_call read_good call_good is_eq
+unfolding first_refusal build first all agree trace row_is both_const same_const unequal_const same_read same_function same_call read_good
+    call_good is_eq
     is_level walk end_good call_matches var_matches node_matches row_answer row_classes leads pairs_with pairs reads_need all_equal congruent root_at
 cases_last = refl
 
@@ -252,38 +267,44 @@ abbrev rooted : List ℕ → List ℕ → Lowering
 rooted eroots troots = base eroots (0 ∷ 1 ∷ 2 ∷ []) (1 ∷ 7 ∷ 0 ∷ []) troots
 
 case-one-bit : both (rooted (2 ∷ 2 ∷ []) (2 ∷ 2 ∷ [])) ≡ accepted ∷ accepted ∷ []
-unfolding first_refusal build first all agree trace row_is both_const same_const unequal_const same_read same_function same_call read_good call_good is_eq
+unfolding first_refusal build first all agree trace row_is both_const same_const unequal_const same_read same_function same_call read_good
+    call_good is_eq
     is_level walk end_good call_matches var_matches node_matches row_answer row_classes leads pairs_with pairs reads_need all_equal congruent root_at
 case-one-bit = refl
 
 -- a source root of eight bits, which Check takes: its position, in the source
 case-eight-bits : both (rooted (2 ∷ 1 ∷ []) (2 ∷ 1 ∷ [])) ≡ accepted ∷ words 19 1 1 ∷ []
-unfolding first_refusal build first all agree trace row_is both_const same_const unequal_const same_read same_function same_call read_good call_good is_eq
+unfolding first_refusal build first all agree trace row_is both_const same_const unequal_const same_read same_function same_call read_good
+    call_good is_eq
     is_level walk end_good call_matches var_matches node_matches row_answer row_classes leads pairs_with pairs reads_need all_equal congruent root_at
 case-eight-bits = refl
 
 -- the same of the target alone, behind the last root that is due
 case-target-bits : both (rooted (2 ∷ []) (2 ∷ 1 ∷ [])) ≡ words 12 0 0 ∷ words 19 1 2 ∷ []
-unfolding first_refusal build first all agree trace row_is both_const same_const unequal_const same_read same_function same_call read_good call_good is_eq
+unfolding first_refusal build first all agree trace row_is both_const same_const unequal_const same_read same_function same_call read_good
+    call_good is_eq
     is_level walk end_good call_matches var_matches node_matches row_answer row_classes leads pairs_with pairs reads_need all_equal congruent root_at
 case-target-bits = refl
 
 -- roots past the rows, in the source and in the target
 cases-past : both (rooted (3 ∷ []) (2 ∷ [])) ∷ both (rooted (2 ∷ []) (2 ∷ 3 ∷ [])) ∷ []
     ≡ (words 12 0 0 ∷ words 19 0 1 ∷ []) ∷ (words 12 0 0 ∷ words 19 1 2 ∷ []) ∷ []
-unfolding first_refusal build first all agree trace row_is both_const same_const unequal_const same_read same_function same_call read_good call_good is_eq
+unfolding first_refusal build first all agree trace row_is both_const same_const unequal_const same_read same_function same_call read_good
+    call_good is_eq
     is_level walk end_good call_matches var_matches node_matches row_answer row_classes leads pairs_with pairs reads_need all_equal congruent root_at
 cases-past = refl
 
 -- both lists are bad: the source's goes first, though the target's is bad at an earlier position
 case-both-lists : both (rooted (2 ∷ 1 ∷ []) (1 ∷ 2 ∷ [])) ≡ words 12 0 0 ∷ words 19 1 1 ∷ []
-unfolding first_refusal build first all agree trace row_is both_const same_const unequal_const same_read same_function same_call read_good call_good is_eq
+unfolding first_refusal build first all agree trace row_is both_const same_const unequal_const same_read same_function same_call read_good
+    call_good is_eq
     is_level walk end_good call_matches var_matches node_matches row_answer row_classes leads pairs_with pairs reads_need all_equal congruent root_at
 case-both-lists = refl
 
 -- a map that is short beside a root of eight bits: 3, and 19
 case-short-map : both (base (1 ∷ []) (0 ∷ 1 ∷ []) (1 ∷ 7 ∷ 0 ∷ []) (1 ∷ [])) ≡ words 3 3 2 ∷ words 19 0 1 ∷ []
-unfolding first_refusal build first all agree trace row_is both_const same_const unequal_const same_read same_function same_call read_good call_good is_eq
+unfolding first_refusal build first all agree trace row_is both_const same_const unequal_const same_read same_function same_call read_good
+    call_good is_eq
     is_level walk end_good call_matches var_matches node_matches row_answer row_classes leads pairs_with pairs reads_need all_equal congruent root_at
 case-short-map = refl
 
@@ -298,13 +319,15 @@ cases-before-after : both (lowering (s5 0 8 0 0 0 []) [] [] (0 ∷ []) (0 ∷ []
     ∷ (words 13 0 0 ∷ words 13 0 0 ∷ [])
     ∷ (words 14 1 0 ∷ words 14 1 0 ∷ [])
     ∷ []
-unfolding first_refusal build first all agree trace row_is both_const same_const unequal_const same_read same_function same_call read_good call_good is_eq
+unfolding first_refusal build first all agree trace row_is both_const same_const unequal_const same_read same_function same_call read_good
+    call_good is_eq
     is_level walk end_good call_matches var_matches node_matches row_answer row_classes leads pairs_with pairs reads_need all_equal congruent root_at
 cases-before-after = refl
 
 -- 19 zeroes all four lists
 case-bits-zero : strict_check (rooted (1 ∷ []) (1 ∷ [])) nines nines nines nines ≡ result_of (BadRoot 0 1) (zeros ∷ zeros ∷ zeros ∷ zeros ∷ [])
-unfolding first_refusal build first all agree trace row_is both_const same_const unequal_const same_read same_function same_call read_good call_good is_eq
+unfolding first_refusal build first all agree trace row_is both_const same_const unequal_const same_read same_function same_call read_good
+    call_good is_eq
     is_level walk end_good call_matches var_matches node_matches row_answer row_classes leads pairs_with pairs reads_need all_equal congruent root_at
 case-bits-zero = refl
 
@@ -321,7 +344,8 @@ dead-entry =
     (t4 19 1 7 0 (t4 29 16 0 0 (t4 19 3 5 0 (t4 31 17 18 0 [])))))))))))))))))))) [] (4 ∷ 11 ∷ 15 ∷ 19 ∷ [])
 
 case-dead : answer dead-entry ≡ words 14 5 0
-unfolding first_refusal build first all agree trace row_is both_const same_const unequal_const same_read same_function same_call read_good call_good is_eq
+unfolding first_refusal build first all agree trace row_is both_const same_const unequal_const same_read same_function same_call read_good
+    call_good is_eq
     is_level walk end_good call_matches var_matches node_matches row_answer row_classes leads pairs_with pairs reads_need all_equal congruent root_at
 case-dead = refl
 

@@ -50,7 +50,8 @@ module _ (S : SourceGraph) (T : TargetGraph) (F : Formed S T) (i : ℕ) (h : i <
   pub call-ready : get_or e 0 0 ≡ t_call → ArgsWithin S.side (get_or e 3 0) (get_or e 4 0)
   call-ready t l k = (call-args (length S.bits) S.side width i e row-formed t l k).within
 
-  pub plain_ready : (get_or e 0 0 ≡ t_var → ⊥) → (get_or e 0 0 ≡ t_const → ⊥) → (get_or e 0 0 ≡ t_select → ⊥) → (get_or e 0 0 ≡ t_call → ⊥) → Plain (node_of e)
+  pub plain_ready : (get_or e 0 0 ≡ t_var → ⊥) → (get_or e 0 0 ≡ t_const → ⊥) → (get_or e 0 0 ≡ t_select → ⊥) → (get_or e 0 0 ≡ t_call → ⊥)
+      → Plain (node_of e)
   plain_ready = plain_row (length S.bits) S.side width i e row-formed
 
 pub consts-target : (S : SourceGraph) (T : TargetGraph) → Formed S T → ConstsWithin Target T.bits T.rows

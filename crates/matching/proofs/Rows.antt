@@ -17,7 +17,8 @@ use Rattle.rows.proofs.View.{View, is-var, is-const, is-extract, is-extend, is-i
 use Rattle.wf.specs.Promise.{RowFormed, Follows, PairFormed, ArgFormed}
 use Rattle.lowering.specs.Lowering.{Binding}
 use Rattle.lowering.specs.Images.{same_const}
-use Rattle.lowering.specs.Matching.{Noted, mapped_arg, select_walk, end_good, end_classes, call_matches, var_matches, node_matches, matched, node_answer}
+use Rattle.lowering.specs.Matching.{Noted, mapped_arg, select_walk, end_good, end_classes, call_matches, var_matches, node_matches, matched}
+use Rattle.lowering.specs.Matching.{node_answer}
 use Rattle.lowering.specs.Matching.{node_classes}
 use Rattle.lowering.specs.Matching.{core, kind_of, kind_answer, kind_classes}
 
@@ -55,7 +56,8 @@ module _ {σ : Sorts} (nbits : ℕ) (side : List ℕ) (width : ℕ → ℕ) (i :
   pub call-args : get_or e 0 0 ≡ t_call → (l : ℕ) → l < get_or e 4 0 → ArgFormed side i (get_or e 3 0) l
   call-args h = (rw h at formed.follows).1
 
-  pub plain_row : (get_or e 0 0 ≡ t_var → ⊥) → (get_or e 0 0 ≡ t_const → ⊥) → (get_or e 0 0 ≡ t_select → ⊥) → (get_or e 0 0 ≡ t_call → ⊥) → Plain (node_of e)
+  pub plain_row : (get_or e 0 0 ≡ t_var → ⊥) → (get_or e 0 0 ≡ t_const → ⊥) → (get_or e 0 0 ≡ t_select → ⊥) → (get_or e 0 0 ≡ t_call → ⊥)
+      → Plain (node_of e)
   plain_row n0 n1 n37 n38 = viewed-plain σ nbits side width i (width i) _ _ _ _ _ (node_of e) n0 n1 n37 n38 formed.follows (view_of e)
 
 -- the answer and the classes of source row i, with the words e, by its tag word

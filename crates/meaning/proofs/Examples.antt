@@ -37,7 +37,8 @@ unfolding build operate stored tabulate
 passed_over = refl
 
 -- "The new scale has 16-bit addresses and 16-bit cells": array 7 beside array 9 of three bits; a Select has its own array's cell width
-two-shapes : source_values (sorts_of (second_edition (7 ∷ 16 ∷ 16 ∷ 9 ∷ 2 ∷ 3 ∷ []))) (s5 0 16 0 0 0 (s5 0 2 0 0 0 (s5 37 7 0 0 0 (s5 37 9 1 0 0 []))))
+two-shapes : source_values (sorts_of (second_edition (7 ∷ 16 ∷ 16 ∷ 9 ∷ 2 ∷ 3 ∷ [])))
+    (s5 0 16 0 0 0 (s5 0 2 0 0 0 (s5 37 7 0 0 0 (s5 37 9 1 0 0 []))))
     [] [] (model (5 ∷ 1 ∷ [])) 4
     ≡ val 16 5 ∷ val 2 1 ∷ val 16 6 ∷ val 3 2 ∷ []
 unfolding build operate stored tabulate first

@@ -109,7 +109,8 @@ module _ {σ : Sorts} (bits side g ws : List ℕ) (I : Interpretation) (formed :
   -- a source value has its row's width
   pub source-width : (i : ℕ) → i < row_count Source g → wid (source_value σ g bits side I i) ≡ get_or ws i 0
   source-width =
-      strong P (λ i ih h. ap wid (source-value i h) ∙ step i (node_of (row_at Source g i)) (node-good (row_at Source g i)) (λ a l. ih a l (omega arith))
+      strong P (λ i ih h. ap wid (source-value i h) ∙ step i (node_of (row_at Source g i)) (node-good (row_at Source g i))
+      (λ a l. ih a l (omega arith))
       (formed i h))
     where
       P : ℕ → Type 0
@@ -130,11 +131,13 @@ module _ {σ : Sorts} (bits side g ws : List ℕ) (I : Interpretation) (formed :
       step i (Var w) t ih r = sym r.follows
       step i (Const s w) t ih r = core i (Const s w) t (omega arith) (λ z. omega arith) ih r
       step i (Un k a) t ih r =
-          core i (Un k a) t (un-tags (λ z. z < 37) k (omega arith) (omega arith) (omega arith) t) (eqb-false k t_var (apart is_un t_var k refl t)) ih r
+          core i (Un k a) t (un-tags (λ z. z < 37) k (omega arith) (omega arith) (omega arith) t) (eqb-false k t_var (apart is_un t_var k refl t))
+          ih r
       step i (Bin k a b) t ih r = core i (Bin k a b) t t.core (eqb-false k t_var t.no-var) ih r
       step i (Extract h l a) t ih r = core i (Extract h l a) t (omega arith) (λ z. omega arith) ih r
       step i (Extend k a n) t ih r =
-          core i (Extend k a n) t (extend-tags (λ z. z < 37) k (omega arith) (omega arith) t) (eqb-false k t_var (apart is_extend t_var k refl t)) ih r
+          core i (Extend k a n) t (extend-tags (λ z. z < 37) k (omega arith) (omega arith) t) (eqb-false k t_var (apart is_extend t_var k refl t))
+          ih r
       step i (Ite c a b) t ih r = core i (Ite c a b) t (omega arith) (λ z. omega arith) ih r
       step i (Select a j s k) t ih r = sym r.follows.0
       step i (Call f w s k) t ih r = sym r.follows.0

@@ -43,7 +43,8 @@ bool-test true = refl
 bool-test false = refl
 
 -- two constants of one width that are not the same have unequal numbers
-pub unequal-numbers : (b c r q : List ℕ) → ((k : ℕ) → get_or b k 0 < 2) → ((k : ℕ) → get_or c k 0 < 2) → both_const r q ≡ true → same_const b r c q ≡ false
+pub unequal-numbers : (b c r q : List ℕ) → ((k : ℕ) → get_or b k 0 < 2) → ((k : ℕ) → get_or c k 0 < 2) → both_const r q ≡ true
+    → same_const b r c q ≡ false
     → get_or r 2 0 ≡ get_or q 2 0 → const_number b (get_or r 1 0) (get_or r 2 0) ≡ const_number c (get_or q 1 0) (get_or q 2 0) → ⊥
 unfolding same_const all
 unequal-numbers b c r q cb cc' k n w e =

@@ -252,7 +252,8 @@ module _ (L : Lowering) (F : Formed L) (M : Matched L) (A : ℕ → ℕ) (fits :
         results_fit = λ f w vs. rw (at-result f w vs) (on-result f w vs _ refl);
       }
     where
-      on-var : (i w : ℕ) → i < source_rows L → S L i ≡ Var w → (b : Bool) → ltb (m L i) (target_rows L) ≡ b → cond b (A (m L i)) (J.variable i) < 2 ^ w
+      on-var : (i w : ℕ) → i < source_rows L → S L i ≡ Var w → (b : Bool) → ltb (m L i) (target_rows L) ≡ b
+          → cond b (A (m L i)) (J.variable i) < 2 ^ w
       on-var i w h e true q = let l = ltb-true _ _ q in fits (m L i) w l (of-var L M i w (h, l) e)
       on-var i w h e false q = kinds.variables-fit i w h e
 

@@ -72,7 +72,8 @@ module _ (table source ebits eside eroots map reads calls cargs target tbits tro
   given = lowering source ebits eside eroots map reads calls cargs target tbits troots
 
   pub as_first : Good (second_edition table)
-      → ((i a j s k : ℕ) → i < row_count Source source → node_of (row_at Source source i) ≡ Select a j s k → Plain (sorts_of (second_edition table)) a)
+      → ((i a j s k : ℕ) → i < row_count Source source → node_of (row_at Source source i) ≡ Select a j s k
+      → Plain (sorts_of (second_edition table)) a)
       → ((q : ℕ) → q < read_count reads → Plain (sorts_of (second_edition table)) (read_array reads q))
       → (strict : Bool) (ws0 ws1 cls ent : List ℕ) → check_by strict second ws0 ws1 cls ent ≡ check_by strict given ws0 ws1 cls ent
   unfolding PlainNode

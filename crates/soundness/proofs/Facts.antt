@@ -18,7 +18,8 @@ use Rattle.value.specs.Operate.{tag_of, parameters}
 use Rattle.lowering.specs.declared.Walk.{Walk}
 use Rattle.lowering.specs.declared.Walk.TheVariants.{RanOut, Met, Lost}
 use Rattle.lowering.specs.Images.{map_at, unequal_const}
-use Rattle.lowering.specs.Tables.{read_count, read_var, read_array, read_index, call_count, call_var, call_function, arg_count, call_arg, same_function}
+use Rattle.lowering.specs.Tables.{read_count, read_var, read_array, read_index, call_count, call_var, call_function, arg_count, call_arg}
+use Rattle.lowering.specs.Tables.{same_function}
 use Rattle.lowering.specs.Matching.{walk, mapped_arg, Kind, var, const, core, select, call, unknown, kind_of}
 use Rattle.lowering.specs.Roots.{congruent}
 use Rattle.lowering.specs.Lowering.{array_sorts, Lowering, source_rows, target_rows}

@@ -21,7 +21,8 @@ use Rattle.value.specs.Graph.{Assigns}
 use Rattle.value.proofs.Tagged.{node-var}
 use Rattle.meaning.specs.Meaning.{Interpretation, OfKind, RootsTrue, source_value}
 use Rattle.lowering.specs.Images.{map_at, field_at}
-use Rattle.lowering.specs.Tables.{read_count, read_var, read_array, read_index, call_count, call_var, call_function, arg_count, call_arg, same_function}
+use Rattle.lowering.specs.Tables.{read_count, read_var, read_array, read_index, call_count, call_var, call_function, arg_count, call_arg}
+use Rattle.lowering.specs.Tables.{same_function}
 use Rattle.lowering.specs.Lowering.{array_sorts, Lowering, source_rows, target_rows}
 use Rattle.soundness.specs.Transfer.{origin, is_origin, var_origin, read_of, call_of, origin_value, read_cell, call_result, assignment}
 use Rattle.soundness.proofs.Facts.{S, T, m, Mapped, one_function, Formed, Owner, by-var, by_read, by_call, Owns, ReadPair, CallPair, Matched}

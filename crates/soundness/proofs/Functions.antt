@@ -36,7 +36,8 @@ abbrev room : List ℕ
 room = 0 ∷ 0 ∷ 0 ∷ 0 ∷ []
 
 accepted : Accepts two-functions room room room room
-unfolding first_refusal build first all agree trace row_is both_const same_const unequal_const same_read same_function same_call read_good call_good is_eq
+unfolding first_refusal build first all agree trace row_is both_const same_const unequal_const same_read same_function same_call read_good
+    call_good is_eq
     is_level walk end_good call_matches var_matches node_matches row_answer row_classes leads pairs_with pairs reads_need all_equal congruent root_at
 accepted = refl
 
@@ -65,7 +66,8 @@ found = interpretation two-functions numbers zero-interpretation
 
 source-true : SourceTrue two-functions found
 source-true =
-    (backward-along false two-functions room room room room (omega arith) accepted numbers zero-interpretation (zero-fits two-functions) target-true).0
+    (backward-along false two-functions room room room room (omega arith) accepted numbers zero-interpretation (zero-fits two-functions)
+    target-true).0
 
 pub source-satisfiable : SourceIsSatisfiable two-functions
 source-satisfiable = (found, source-true.0, source-true.1)

@@ -65,7 +65,8 @@ module _ (target : List ℕ) where
       → node_of (row_at Target target r) ≡ Bin t_bool_and (field_at target r 1) (field_at target r 2)
   and-row r e = rw (eqb-true (tag_at target r) t_bool_and e)
 
-  pub or-row : (r : ℕ) → eqb (tag_at target r) t_bool_or ≡ true → node_of (row_at Target target r) ≡ Bin t_bool_or (field_at target r 1) (field_at target r 2)
+  pub or-row : (r : ℕ) → eqb (tag_at target r) t_bool_or ≡ true → node_of (row_at Target target r) ≡ Bin t_bool_or (field_at target r 1)
+      (field_at target r 2)
   or-row r e = rw (eqb-true (tag_at target r) t_bool_or e)
 
   pub not-row : (r : ℕ) → eqb (tag_at target r) t_not ≡ true → node_of (row_at Target target r) ≡ Un t_not (field_at target r 1)

@@ -43,7 +43,8 @@ abbrev room : List ℕ
 room = 0 ∷ 0 ∷ 0 ∷ 0 ∷ 0 ∷ 0 ∷ 0 ∷ 0 ∷ 0 ∷ []
 
 pub accepted : Accepts two-reads room room room room
-unfolding first_refusal build first all agree trace row_is both_const same_const unequal_const same_read same_function same_call read_good call_good is_eq
+unfolding first_refusal build first all agree trace row_is both_const same_const unequal_const same_read same_function same_call read_good
+    call_good is_eq
     is_level walk end_good call_matches var_matches node_matches row_answer row_classes leads pairs_with pairs reads_need all_equal congruent root_at
 accepted = refl
 
@@ -96,7 +97,8 @@ source-satisfiable = (found, source-true.0, source-true.1)
 
 -- the strict check accepts the lowering too, and the strict truth holds of the same numbers on both sides (02, 2.6)
 strictly : StrictlyAccepts two-reads room room room room
-unfolding first_refusal build first all agree trace row_is both_const same_const unequal_const same_read same_function same_call read_good call_good is_eq
+unfolding first_refusal build first all agree trace row_is both_const same_const unequal_const same_read same_function same_call read_good
+    call_good is_eq
     is_level walk end_good call_matches var_matches node_matches row_answer row_classes leads pairs_with pairs reads_need all_equal congruent root_at
 strictly = refl
 

@@ -70,7 +70,8 @@ abbrev room : List ℕ
 room = 0 ∷ 0 ∷ 0 ∷ 0 ∷ 0 ∷ 0 ∷ 0 ∷ []
 
 accepted : Accepts (scan []) room room room room × Accepts five room room room room × (classes_left five ≡ 1 ∷ 1 ∷ 4 ∷ 0 ∷ 0 ∷ 0 ∷ 0 ∷ [])
-unfolding first_refusal build first all agree trace row_is both_const same_const unequal_const same_read same_function same_call read_good call_good is_eq
+unfolding first_refusal build first all agree trace row_is both_const same_const unequal_const same_read same_function same_call read_good
+    call_good is_eq
     is_level walk end_good call_matches var_matches node_matches row_answer row_classes leads pairs_with pairs reads_need all_equal congruent root_at
 accepted = (refl, refl, refl)
 
@@ -207,7 +208,8 @@ by-image =
 
 refused : map (λ (L : Lowering). words_of (check_answer L 7 7 7 7)) (by-unmapped ∷ by-class-zero ∷ by-image ∷ [])
     ≡ words 12 0 0 ∷ words 12 0 0 ∷ words 12 0 0 ∷ []
-unfolding first_refusal build first all agree trace row_is both_const same_const unequal_const same_read same_function same_call read_good call_good is_eq
+unfolding first_refusal build first all agree trace row_is both_const same_const unequal_const same_read same_function same_call read_good
+    call_good is_eq
     is_level walk end_good call_matches var_matches node_matches row_answer row_classes leads pairs_with pairs reads_need all_equal congruent root_at
 refused = refl
 

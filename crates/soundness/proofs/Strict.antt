@@ -84,6 +84,7 @@ strict-leaves L ws0 ws1 cls ent accepts = go (strict-or-19 L (length ws0) (lengt
     go : (strict ≡ check_answer L (length ws0) (length ws1) (length cls) (length ent)) ⊎ ((words_of strict).number ≡ 19)
         → strict_check L ws0 ws1 cls ent ≡ check L ws0 ws1 cls ent
     go (inl same) =
-        ap (λ (a : Answer). leaves a ((ws0, widths_of_source L) ∷ (ws1, widths_of_target L) ∷ (cls, classes L (source_rows L)) ∷ (ent, offsets L) ∷ []))
+        ap (λ (a : Answer). leaves a ((ws0, widths_of_source L) ∷ (ws1, widths_of_target L) ∷ (cls, classes L (source_rows L)) ∷ (ent, offsets L) ∷
+        []))
         same
     go (inr number) = no_way (sym accepts ∙ ap (λ (n : ℕ). eqb n 0) number)

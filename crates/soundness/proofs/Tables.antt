@@ -20,7 +20,8 @@ use Rattle.rows.specs.Row.{row_count, row_at}
 use Rattle.rules.specs.Rule.{has_width}
 use Rattle.wf.specs.Widths.{row_width, widths}
 use Rattle.lowering.specs.Images.{field_at}
-use Rattle.lowering.specs.Tables.{read_count, read_var, read_array, read_index, call_count, call_var, call_start, arg_count, call_arg, read_good, call_good}
+use Rattle.lowering.specs.Tables.{read_count, read_var, read_array, read_index, call_count, call_var, call_start, arg_count, call_arg, read_good}
+use Rattle.lowering.specs.Tables.{call_good}
 use Rattle.lowering.specs.Tables.{read_classes, call_classes, read_offsets}
 use Rattle.lowering.specs.Lowering.{array_sorts, Lowering, target_rows}
 use Rattle.lowering.specs.Check.{widths_of_target, no_classes, classes_of_reads, classes_of_tables, offsets}

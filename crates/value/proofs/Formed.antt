@@ -50,7 +50,8 @@ fit-map look f (a ∷ l) (Prim.Native.Nat.suc j) = fit-map look f l j
 
 module _ (bits side : List ℕ) (width : ℕ → ℕ) (look : ℕ → Val) (i : ℕ) (agree : (a : ℕ) → a < i → wid (look a) ≡ width a) where
   -- the operator's width is the row's
-  pub core-width : {σ : Sorts} (node : Node) → TagGood node → tag_of node < 37 → (tag_of node ≡ t_var → ⊥) → RowFormed σ (length bits) side width i node
+  pub core-width : {σ : Sorts} (node : Node) → TagGood node → tag_of node < 37 → (tag_of node ≡ t_var → ⊥)
+      → RowFormed σ (length bits) side width i node
       → wid (core_value bits look node) ≡ width i
   unfolding operate
   core-width (Var w) g c v r = absurd (v refl)

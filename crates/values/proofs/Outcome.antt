@@ -52,7 +52,8 @@ module _ (g bits given ws vs : List ℕ) where
       → values g bits given ws vs
       ≡ result_of a ((lent a ws (widths plain Target (length bits) [] g)) ∷ (lent a vs (numbers_to g bits given (row_count Target g))) ∷ [])
   settled a e =
-      ap (λ (x : Answer). result_of x ((lent x ws (widths plain Target (length bits) [] g)) ∷ (lent x vs (numbers_to g bits given (row_count Target g)))
+      ap (λ (x : Answer). result_of x ((lent x ws (widths plain Target (length bits) [] g)) ∷
+      (lent x vs (numbers_to g bits given (row_count Target g)))
       ∷ [])) e
 
   pub values-15 : ragged Target g ≡ true → values g bits given ws vs ≡ result_of (RowCount 2) (ws ∷ vs ∷ [])
@@ -97,7 +98,8 @@ module _ (g bits given ws vs : List ℕ) where
               zero old new =
                   given-zero (ltb (wide_row (widths plain Target (length bits) [] g) (row_count Target g)) (row_count Target g))
                   (eqb (length given) (row_count Target g)) (ltb (bad_word g given) (row_count Target g))
-                  (wide_row (widths plain Target (length bits) [] g) (row_count Target g)) (bad_word g given) (row_count Target g) (length given) old new
+                  (wide_row (widths plain Target (length bits) [] g) (row_count Target g)) (bad_word g given) (row_count Target g) (length given)
+                  old new
                   e
 
           pub values-accepted : is_accepted (given_answer g (widths plain Target (length bits) [] g) given) ≡ true
@@ -105,7 +107,8 @@ module _ (g bits given ws vs : List ℕ) where
               ≡ result_of Accepted ((widths plain Target (length bits) [] g ++ replicate (length ws - row_count Target g) 0)
               ∷ (numbers_to g bits given (row_count Target g) ++ replicate (length vs - row_count Target g) 0) ∷ [])
           values-accepted e =
-              settled Accepted (answer-is ∙ given_yes (ltb (wide_row (widths plain Target (length bits) [] g) (row_count Target g)) (row_count Target g))
+              settled Accepted (answer-is
+              ∙ given_yes (ltb (wide_row (widths plain Target (length bits) [] g) (row_count Target g)) (row_count Target g))
               (eqb (length given) (row_count Target g)) (ltb (bad_word g given) (row_count Target g))
               (wide_row (widths plain Target (length bits) [] g) (row_count Target g)) (bad_word g given) (row_count Target g) (length given) e)
               ∙ ap₂ (λ (k l : List ℕ). result_of Accepted (k ∷ l ∷ []))

@@ -18,7 +18,8 @@ use Rattle.rows.specs.declared.Node.TheVariants.{Var, Const, Un, Bin, Extract, E
 use Rattle.rows.specs.Row.{row_count, row_at}
 use Rattle.rows.specs.Tags.{t_concat, t_not, is_bool}
 use Rattle.rows.specs.Node.{node_of, operands}
-use Rattle.rules.specs.Rule.{ceiling, capped, same, un_width, bin_width, has_width, pair_bad, arg_bad, entries_good, chain_good, args_good, rule, earlier}
+use Rattle.rules.specs.Rule.{ceiling, capped, same, un_width, bin_width, has_width, pair_bad, arg_bad, entries_good, chain_good, args_good, rule}
+use Rattle.rules.specs.Rule.{earlier}
 use Rattle.rules.specs.Rule.{node_width}
 use Rattle.wf.specs.Widths.{row_width, widths_to, widths, row_ill, ill_row}
 use Rattle.wf.specs.Promise.{Below, PairFormed, ArgFormed, BinFormed, Follows, IsWidth, AreWidths, RowFormed, WellFormed}

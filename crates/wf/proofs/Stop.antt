@@ -32,7 +32,8 @@ module _ (σ : Sorts) (graph : Graph) (nbits : ℕ) (side g : List ℕ) where
 
   -- the width that the line of a row's tag gives it
   abbrev by-line : List ℕ → List ℕ → List Line → ℕ
-  by-line ws r lines = line_width σ nbits side ws (get_or lines (get_or r 0 0) (line 0 0 0)) (get_or r 1 0) (get_or r 2 0) (get_or r 3 0) (get_or r 4 0)
+  by-line ws r lines = line_width σ nbits side ws (get_or lines (get_or r 0 0) (line 0 0 0)) (get_or r 1 0) (get_or r 2 0) (get_or r 3 0)
+      (get_or r 4 0)
 
   -- a row whose tag there is: its line gives the width of a good row, and none to a bad one; what passes the ceiling is none
   pub line-good : (i : ℕ) (ws : List ℕ) (lines : List Line) (r : List ℕ) → lines ≡ table → r ≡ row_at graph g i → get_or r 0 0 < tag_count graph

@@ -41,7 +41,8 @@ lent_rows : (graph : Graph) (g bits : List ℕ) (row : ℕ) → row < row_count 
     → lent (rows_answer graph g bits row) old new ≡ replicate (length old) 0
 lent_rows graph g bits row h old new =
     rw (lt-ltb _ _ h)
-    (lent-zero (ltb (bad_row graph g) (row_count graph g)) (ltb (bad_bit bits) (length bits)) graph (bad_row graph g) (bad_bit bits) (graph_number graph)
+    (lent-zero (ltb (bad_row graph g) (row_count graph g)) (ltb (bad_bit bits) (length bits)) graph (bad_row graph g) (bad_bit bits)
+    (graph_number graph)
     row old new)
 
 module _ (σ : Sorts) (graph : Graph) (g bits side ws : List ℕ) where

@@ -28,7 +28,8 @@ returns-then-target-troots c = record {
       let at_source = at_Target.before.before in
       let s = (start at_source.before).args in
       target-19 s.strict s.ws0.now s.eroots.now s.ws1.now s.troots.now (at_source.if-not-strict.false) _
-      at_source.roots_wf-source.ensures.position at_Target.if-source-eroots.false _ at_Target.roots_wf-target.ensures.position c.if-target-troots.true;
+      at_source.roots_wf-source.ensures.position at_Target.if-source-eroots.false _ at_Target.roots_wf-target.ensures.position
+          c.if-target-troots.true;
 }
 
 pub returns : goal.returns
@@ -38,5 +39,6 @@ returns c = record {
       let at_source = at_Target.before.before in
       let s = (start at_source.before).args in
       one-bit-roots s.strict s.ws0.now s.eroots.now s.ws1.now s.troots.now (at_source.if-not-strict.false) _
-      at_source.roots_wf-source.ensures.position at_Target.if-source-eroots.false _ at_Target.roots_wf-target.ensures.position c.if-target-troots.false;
+      at_source.roots_wf-source.ensures.position at_Target.if-source-eroots.false _ at_Target.roots_wf-target.ensures.position
+          c.if-target-troots.false;
 }

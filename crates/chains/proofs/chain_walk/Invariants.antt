@@ -7,7 +7,8 @@ use Rattle.chains.proofs.chain_walk.Given as goal
 
 abbrev pub invariant-pairs : goal.invariant-pairs
 invariant-pairs l =
-    (l.l ≤ l.k) × (walk (source_graph l.source l.ebits l.eside) l.map l.target l.j l.k l.s l.r ≡ walk (source_graph l.source l.ebits l.eside) l.map l.target l.j (l.k - l.l) (l.s + 2 * l.l) l.row)
+    (l.l ≤ l.k) × (walk (source_graph l.source l.ebits l.eside) l.map l.target l.j l.k l.s l.r ≡ walk (source_graph l.source l.ebits l.eside) l.map
+    l.target l.j (l.k - l.l) (l.s + 2 * l.l) l.row)
 
 abbrev pub decreases-pairs : goal.decreases-pairs
 decreases-pairs l = l.k - l.l

@@ -1,3 +1,4 @@
+-- The goals that search leaves open. Assumes nothing.
 use Prim.Native.Nat.{◌-◌}
 use mathlib.Core.Path.{refl, ◌∙◌}
 use mathlib.Core.Bool.{false}
@@ -48,7 +49,8 @@ returns-then-not-is_accepted c =
     let l = at-loop.loop-i in
     let e = c.ext_step-a.ensures in
     rows-stop (asked at-start) (known at-start) l.i l.cls l.invariant.3 l.invariant.2 _ _
-    (rw at-row-count.row_count-n.ensures.count at in-loop.loop-i-test.true) e.answer e.list (rw c.is_accepted.ensures.test at c.if-not-is_accepted.true)
+    (rw at-row-count.row_count-n.ensures.count at in-loop.loop-i-test.true) e.answer e.list (rw c.is_accepted.ensures.test at
+        c.if-not-is_accepted.true)
 
 pub loop-i-preserved : goal.loop-i-preserved
 loop-i-preserved c =

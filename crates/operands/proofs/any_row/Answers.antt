@@ -17,4 +17,10 @@ returns-then-from-eq-FIELD1 c = record {
 }
 
 pub returns-else-from-eq-FIELD1 : goal.returns-else-from-eq-FIELD1
-returns-else-from-eq-FIELD1 c = record { width = rw (sym c.fields_good.ensures.test ∙ c.if-not-fields_good.false, ne_eqb _ _ c.if-from-eq-FIELD1.false) }
+returns-else-from-eq-FIELD1 c = record {
+  width = rw (
+    sym c.fields_good.ensures.test
+        ∙ c.if-not-fields_good.false,
+    ne_eqb _ _ c.if-from-eq-FIELD1.false,
+  );
+}

@@ -12,4 +12,10 @@ pub returns-in-7 : goal.returns-in-7
 returns-in-7 c = record { width = rw c.in-7.is c.arguments_row.ensures.width }
 
 pub returns-in_default : goal.returns-in_default
-returns-in_default c = record { width = rw (ne_eqb _ _ c.in_default.in_default-own.rest.0.0.1, ne_eqb _ _ c.in_default.in_default-own.rest.0.1, ne_eqb _ _ c.in_default.in_default-own.rest.1) }
+returns-in_default c = record {
+  width = rw (
+    ne_eqb _ _ c.in_default.in_default-own.rest.0.0.1,
+    ne_eqb _ _ c.in_default.in_default-own.rest.0.1,
+    ne_eqb _ _ c.in_default.in_default-own.rest.1,
+  );
+}

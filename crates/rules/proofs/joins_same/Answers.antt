@@ -15,4 +15,10 @@ pub returns-in-3 : goal.returns-in-3
 returns-in-3 c = record { test = λ w. rw c.in-3.is (choice-again (eqb c.args.a 1) w) }
 
 pub returns-in_default : goal.returns-in_default
-returns-in_default c = record { test = λ w. rw (ne_eqb _ _ c.in_default.in_default-own.rest.0.0.1, ne_eqb _ _ c.in_default.in_default-own.rest.0.1, ne_eqb _ _ c.in_default.in_default-own.rest.1) }
+returns-in_default c = record {
+  test = λ w. rw (
+    ne_eqb _ _ c.in_default.in_default-own.rest.0.0.1,
+    ne_eqb _ _ c.in_default.in_default-own.rest.0.1,
+    ne_eqb _ _ c.in_default.in_default-own.rest.1,
+  );
+}

@@ -12,4 +12,7 @@ pub returns-then-from-eq-ONE : goal.returns-then-from-eq-ONE
 returns-then-from-eq-ONE c = record { width = rw (eq-eqb _ _ c.if-from-eq-ONE.true) }
 
 pub returns-else-from-eq-ONE : goal.returns-else-from-eq-ONE
-returns-else-from-eq-ONE c = record { width = rw (ne_eqb _ _ c.if-from-eq-ONE.false, eq-eqb c.args.from 1 (omega arith)) (sym (in-word _ (omega arith))) }
+returns-else-from-eq-ONE c = record {
+  width = rw (ne_eqb _ _ c.if-from-eq-ONE.false, eq-eqb c.args.from 1 (omega arith))
+      (sym (in-word _ (omega arith)));
+}

@@ -15,7 +15,8 @@ returns-then-r-read_count c = record {
       let at-start = at-read-entries.before.before.before.before.before.before.before.before.before.before.before in
       let s = at-start.args in
       let σ = sorts_of (edition s.second s.sorts.now) in
-      let r = at-read-entries.read_entries-r.ensures in ap ReadTable r.entry ∙ sym (read-5 σ (entries s.reads.now s.calls.now s.cargs.now) s.target.now s.ws.now s.cls.now
+      let r = at-read-entries.read_entries-r.ensures in
+          ap ReadTable r.entry ∙ sym (read-5 σ (entries s.reads.now s.calls.now s.cargs.now) s.target.now s.ws.now s.cls.now
       (rw (r.entry, c.read_count.ensures.count) at c.if-r-read_count.true));
   classes = let at-read-entries = c.before.before.before.before.before.before in
       let at-start = at-read-entries.before.before.before.before.before.before.before.before.before.before.before in
@@ -45,7 +46,8 @@ returns-then-c-call_count c = record {
       let marked = rw (r.entry, all) at r.classes in
       let offs = rw (r.entry, all) at r.offsets in
       let k = at-call-entries.call_entries-c.ensures in
-      let bad = rw marked at k.entry in ap CallTable bad ∙ sym (call-6 σ (entries s.reads.now s.calls.now s.cargs.now) s.target.now s.ws.now s.cls.now a
+      let bad = rw marked at k.entry in
+          ap CallTable bad ∙ sym (call-6 σ (entries s.reads.now s.calls.now s.cargs.now) s.target.now s.ws.now s.cls.now a
       (rw (bad, c.call_count.ensures.count) at c.if-c-call_count.true));
   classes = let at-call-entries = c.before.before.before.before.before.before in
       let at-else1 = at-call-entries.before.before.before in
@@ -97,7 +99,8 @@ returns c = record {
       let k = at-call-entries.call_entries-c.ensures in
       let bad = rw marked at k.entry in
       let b = rw (bad, c.call_count.ensures.count) at c.if-c-call_count.false in
-      let every = bad ∙ all-calls s.calls.now s.cargs.now s.target.now s.ws.now _ b in sym (tables-good σ (entries s.reads.now s.calls.now s.cargs.now) s.target.now s.ws.now s.cls.now a b);
+      let every = bad ∙ all-calls s.calls.now s.cargs.now s.target.now s.ws.now _ b in
+          sym (tables-good σ (entries s.reads.now s.calls.now s.cargs.now) s.target.now s.ws.now s.cls.now a b);
   classes = let at-call-entries = c.before.before.before.before.before.before in
       let at-else1 = at-call-entries.before.before.before in
       let at-read-count = at-else1.before in

@@ -1,3 +1,4 @@
+-- The goals that search leaves open. Assumes nothing.
 use Prim.Native.Nat.{ℕ, ◌+◌, ◌≤◌, ◌<◌, ◌-◌}
 use mathlib.Core.Path.{◌≡◌, refl, ◌∙◌, sym, ap}
 use mathlib.Core.Bool.{true}
@@ -38,7 +39,8 @@ returns-then-tags-r c = record {
   place = let l = c.loop-i in
       let bad = le-ltb _ _ (rw (c.tag_count-tags.ensures.count, c.row-r.ensures.row) at c.if-tags-r.true) in (l.invariant.0, l.invariant.1);
   part = let l = c.loop-i in
-      let bad = le-ltb _ _ (rw (c.tag_count-tags.ensures.count, c.row-r.ensures.row) at c.if-tags-r.true) in λ σ base one start. (l.invariant.3 σ base one start, λ h. rw bad);
+      let bad = le-ltb _ _ (rw (c.tag_count-tags.ensures.count, c.row-r.ensures.row) at c.if-tags-r.true) in
+      λ σ base one start. (l.invariant.3 σ base one start, λ h. rw bad);
 }
 
 -- the tag is one of the graph's, so it has a line

@@ -22,7 +22,7 @@ refusal-requires c =
       stop_bound = omega (arith, before);
       by_index =
           λ j h. stop-good (sorts_of (edition s.second s.sorts.now)) s.graph (length s.bits.now) s.side.now s.g.now j
-              (rw c.graph_wf-stop.ensures.row at h);
+          (rw c.graph_wf-stop.ensures.row at h);
       stop_bound_2 = λ e. before;
     }
 
