@@ -13,15 +13,13 @@ loop-k-init c =
 pub overflow_mul-v : goal.overflow_mul-v
 overflow_mul-v c =
     let l = c.loop-k in
-    let g = c.before.before.before in
-    let r = const-room g.args.bits.now g.args.s g.args.w l.k (omega arith) l.invariant.0 g.requires.1 g.requires.2 in
+    let r = const-room c.args.bits.now c.args.s c.args.w l.k (omega arith) l.invariant.0 c.requires.1 c.requires.2 in
     rw l.invariant.1 (omega arith)
 
 pub overflow_add-v : goal.overflow_add-v
 overflow_add-v c =
     let l = c.loop-k in
-    let g = c.before.before.before.before.before in
-    let r = const-room g.args.bits.now g.args.s g.args.w l.k (omega arith) l.invariant.0 g.requires.1 g.requires.2 in
+    let r = const-room c.args.bits.now c.args.s c.args.w l.k (omega arith) l.invariant.0 c.requires.1 c.requires.2 in
     rw (l.invariant.1, c.wide.ensures.value) (omega arith)
 
 pub loop-k-preserved : goal.loop-k-preserved
