@@ -16,30 +16,27 @@ pub slice_bounds-row_value-end-in-loop-i : goal.slice_bounds-row_value-end-in-lo
 slice_bounds-row_value-end-in-loop-i c = sym (length-take-le _ _ (omega arith))
 
 pub row_value-v-requires : goal.row_value-v-requires
-row_value-v-requires c = record {
-  i_bound = let p = c.before.before.before.before.before.before.before.before.before in
-      let s = p.args in
-      let l = c.loop-i in
-      let h = rw p.requires.evaluable.widths at c.loop-i-test.true in h;
-  ready = let p = c.before.before.before.before.before.before.before.before.before in
-      let s = p.args in
-      let l = c.loop-i in
-      let h = rw p.requires.evaluable.widths at c.loop-i-test.true in rw (
+row_value-v-requires c =
+    let s = c.args in
+    let l = c.loop-i in
+    let h = rw c.requires.evaluable.widths at c.loop-i-test.true in
+    record {
+      i_bound = h;
+      ready = rw (
         ap (take l.i) l.invariant.2 ∙ numbers-front s.g.now s.bits.now s.given.now l.i _,
         numbers-length s.g.now s.bits.now s.given.now l.i,
       )
-      (row-ready s.g.now s.bits.now s.given.now s.ws.now p.requires.evaluable l.i h);
-}
+      (row-ready s.g.now s.bits.now s.given.now s.ws.now c.requires.evaluable l.i h);
+    }
 
 pub loop-i-preserved : goal.loop-i-preserved
 loop-i-preserved c =
-    let p = c.before.before.before.before.before.before.before.before.before.before in
-    let s = p.args in
+    let s = c.args in
     let l = c.loop-i in
-    let h = rw p.requires.evaluable.widths at c.loop-i-test.true in
+    let h = rw c.requires.evaluable.widths at c.loop-i-test.true in
     let v =
     (rw (ap (take l.i) l.invariant.2 ∙ numbers-front s.g.now s.bits.now s.given.now l.i _) at c.row_value-v.ensures.value)
-    ∙ row_number s.g.now s.bits.now s.given.now s.ws.now p.requires.evaluable l.i h 0 in (
+    ∙ row_number s.g.now s.bits.now s.given.now s.ws.now c.requires.evaluable l.i h 0 in (
       omega arith,
       simp length-set l.invariant.1,
       rw l.invariant.2

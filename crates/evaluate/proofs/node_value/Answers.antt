@@ -16,14 +16,14 @@ const_value-requires c =
 pub un_at-requires : goal.un_at-requires
 un_at-requires c =
     let s = c.args in
-    un-ready s.bits.now s.ws.now s.vs.now _ _ (rw
-    c.in-Un.is at c.requires)
+    let p = un-ready s.bits.now s.ws.now s.vs.now _ _ (rw c.in-Un.is at c.requires) in
+    record { i_in_bounds = p.0; t_value = p.1 }
 
 pub bin_at-requires : goal.bin_at-requires
 bin_at-requires c =
     let s = c.args in
-    bin_ready s.bits.now s.ws.now s.vs.now _ _ _
-    (rw c.in-Bin.is at c.requires)
+    let p = bin_ready s.bits.now s.ws.now s.vs.now _ _ _ (rw c.in-Bin.is at c.requires) in
+    record { i_in_bounds = p.0; bin_ready = p.1 }
 
 pub extract_at-requires : goal.extract_at-requires
 extract_at-requires c =
@@ -34,8 +34,8 @@ extract_at-requires c =
 pub extend_at-requires : goal.extend_at-requires
 extend_at-requires c =
     let s = c.args in
-    extend-ready s.bits.now s.ws.now s.vs.now _ _ _
-    (rw c.in-Extend.is at c.requires)
+    let p = extend-ready s.bits.now s.ws.now s.vs.now _ _ _ (rw c.in-Extend.is at c.requires) in
+    record { i_in_bounds = p.0; t_value = p.1 }
 
 pub ite_at-requires : goal.ite_at-requires
 ite_at-requires c =
