@@ -18,8 +18,7 @@ row-requires c = rw c.requires at c.loop-i-test.true
 pub returns-then-word_bad : goal.returns-then-word_bad
 returns-then-word_bad c = record {
   row =
-      let s = c.before.before.before.before.before.before.before.before in
-      sym (first-at (word_bad s.args.g.now s.args.given.now) _ _ (rw s.requires at c.loop-i-test.true)
+      sym (first-at (word_bad c.args.g.now c.args.given.now) _ _ (rw c.requires at c.loop-i-test.true)
       (rw c.row.ensures.row at (sym c.word_bad.ensures.test ∙ c.if-word_bad.true))
       c.loop-i.invariant.1);
 }
@@ -34,7 +33,6 @@ loop-i-preserved c = (
 pub returns : goal.returns
 returns c = record {
   row =
-      let s = c.before.before.before.before in
-      sym (first_past (word_bad s.args.g.now s.args.given.now) _ _ (rw s.requires at c.loop-i.invariant.0)
-      (rw s.requires at c.loop-i-test.false) c.loop-i.invariant.1);
+      sym (first_past (word_bad c.args.g.now c.args.given.now) _ _ (rw c.requires at c.loop-i.invariant.0)
+      (rw c.requires at c.loop-i-test.false) c.loop-i.invariant.1);
 }
