@@ -10,9 +10,9 @@ use rows::Graph;
 
 // The numbers of a target's rows under the words given for its variables, with its widths, or the first refusal by 01's order.
 pub fn values(target: &[u64], bits: &[u8], given: &[u64], ws: &mut [u64], vs: &mut [u64]) -> Answer
-    ensures* outcome { λ r. ⌜ result_of r (ws.new ∷ vs.new ∷ [])
+    ensures outcome { result_of result (ws.new ∷ vs.new ∷ [])
         ≡ values target.now bits.now given.now
-        ws.old vs.old ⌝ }
+        ws.old vs.old }
 {
     if rows::is_ragged(Graph::Target, target) {
         return Answer::RowCount(2);
