@@ -1,5 +1,3 @@
--- The goals that search leaves open. Assumes nothing.
-use Prim.Native.Nat.{◌-◌}
 use Rattle.images.proofs.Agree.{agreed-none, agreed-more, agreed-no, agreed-all}
 use Rattle.keys.proofs.args_eq.Goals as goal
 
