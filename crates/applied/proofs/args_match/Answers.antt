@@ -1,5 +1,3 @@
--- The goals that search leaves open. Assumes nothing.
-use Prim.Native.Nat.{◌-◌}
 use mathlib.Core.Path.{◌∙◌, sym}
 use native.Mathlib.Omega.{arith}
 use Rattle.images.proofs.Agree.{agreed-none, agreed-more, agreed-no, agreed-all}
