@@ -4,10 +4,6 @@ use borrow.Author.Tests.{lt-ltb, le-ltb, eq-eqb, ne_eqb}
 use Rattle.lowering.specs.Matching.{row_answer, row_classes}
 use Rattle.matching.proofs.ext_step.Goals as goal
 
--- the start, from the first place past what is known of the lists
-abbrev start : goal.After-map_at-r → goal.Start
-start c = let lists = c.before.before.before.before.before.before.before.before in lists.before.before.before.before
-
 pub returns-then-r : goal.returns-then-r
 unfolding row_answer row_classes
 returns-then-r c = record {
@@ -26,17 +22,12 @@ returns-then-row_count-r c = record {
 }
 
 pub row_corr-requires : goal.row_corr-requires
-row_corr-requires c = record {
-  formed = let at-map-at = c.before.before.before.before in
-      let at-start = start at-map-at in
-      let p = at-start.pre in p.0;
-  ent_len = let at-map-at = c.before.before.before.before in
-      let at-start = start at-map-at in
-      let p = at-start.pre in p.1.0;
-  i_bound = let at-map-at = c.before.before.before.before in
-      let at-start = start at-map-at in
-      let p = at-start.pre in (p.1.1, rw c.row_count.ensures.count at c.if-row_count-r.false);
-}
+row_corr-requires c =
+    let p = c.requires in record {
+      formed = p.formed;
+      ent_len = p.ent_len;
+      i_bound = (p.i_bound, rw c.row_count.ensures.count at c.if-row_count-r.false);
+    }
 
 pub returns : goal.returns
 unfolding row_answer row_classes
