@@ -2,43 +2,31 @@
 use Rattle.assertions.proofs.Bits.{not-asked, source-19, target-19, one-bit-roots}
 use Rattle.assertions.proofs.root_answer.Goals as goal
 
-abbrev start : goal.Else-not-strict → goal.Start
-start c = c.before.before.before.before.before
-
 pub returns-then-not-strict : goal.returns-then-not-strict
 returns-then-not-strict c = record {
-  answer =
-      let s = c.args in
-      not-asked s.strict s.ws0.now s.eroots.now s.ws1.now s.troots.now (c.if-not-strict.true);
+  answer = let s = c.args in not-asked s.strict s.ws0.now s.eroots.now s.ws1.now s.troots.now c.if-not-strict.true;
 }
 
 pub returns-then-source-eroots : goal.returns-then-source-eroots
 returns-then-source-eroots c = record {
   answer =
-      let at_source = c.before in
-      let s = (start at_source.before).args in
-      source-19 s.strict s.ws0.now s.eroots.now s.ws1.now s.troots.now (at_source.if-not-strict.false) _
-      at_source.roots_wf-source.ensures.position c.if-source-eroots.true;
+      let s = c.args in
+      source-19 s.strict s.ws0.now s.eroots.now s.ws1.now s.troots.now c.if-not-strict.false _ c.roots_wf-source.ensures.position
+      c.if-source-eroots.true;
 }
 
 pub returns-then-target-troots : goal.returns-then-target-troots
 returns-then-target-troots c = record {
   answer =
-      let at_Target = c.before in
-      let at_source = at_Target.before.before in
-      let s = (start at_source.before).args in
-      target-19 s.strict s.ws0.now s.eroots.now s.ws1.now s.troots.now (at_source.if-not-strict.false) _
-      at_source.roots_wf-source.ensures.position at_Target.if-source-eroots.false _ at_Target.roots_wf-target.ensures.position
-          c.if-target-troots.true;
+      let s = c.args in
+      target-19 s.strict s.ws0.now s.eroots.now s.ws1.now s.troots.now c.if-not-strict.false _ c.roots_wf-source.ensures.position
+      c.if-source-eroots.false _ c.roots_wf-target.ensures.position c.if-target-troots.true;
 }
 
 pub returns : goal.returns
 returns c = record {
   answer =
-      let at_Target = c.before in
-      let at_source = at_Target.before.before in
-      let s = (start at_source.before).args in
-      one-bit-roots s.strict s.ws0.now s.eroots.now s.ws1.now s.troots.now (at_source.if-not-strict.false) _
-      at_source.roots_wf-source.ensures.position at_Target.if-source-eroots.false _ at_Target.roots_wf-target.ensures.position
-          c.if-target-troots.false;
+      let s = c.args in
+      one-bit-roots s.strict s.ws0.now s.eroots.now s.ws1.now s.troots.now c.if-not-strict.false _
+      c.roots_wf-source.ensures.position c.if-source-eroots.false _ c.roots_wf-target.ensures.position c.if-target-troots.false;
 }
