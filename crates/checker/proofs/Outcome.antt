@@ -160,7 +160,7 @@ module _ (strict : Bool) (L : Lowering) (ws0 ws1 cls ent : List ℕ) where
             (no-stop-target (sort_answer L.edition) L.source L.target (source_ill (array_sorts L) L.source) (target_ill L.target) g);
       }
 
--- a result_of by its lists
+-- a result by its lists
 pub by-lists : (a : Answer) (x0 x1 x2 x3 y0 y1 y2 y3 : List ℕ) (z : Result) → x0 ≡ y0 → x1 ≡ y1 → x2 ≡ y2 → x3 ≡ y3
     → result_of a (y0 ∷ y1 ∷ y2 ∷ y3 ∷ []) ≡ z → result_of a (x0 ∷ x1 ∷ x2 ∷ x3 ∷ []) ≡ z
 by-lists a x0 x1 x2 x3 y0 y1 y2 y3 z e f g h k = rw (e, f, g, h) k
