@@ -10,6 +10,7 @@ use Rattle.loaded.specs.Held.{held, book_words}
 use Rattle.loaded.proofs.Held.{counts-refused, words-short, room-good}
 use borrow.Author.Rules.{rules}
 use Rattle.loaded.proofs.room_answer.Goals as goal
+use Rattle.loaded.proofs.room_answer.Goals.{After-offset}
 
 pub word_count-requires : goal.word_count-requires
 word_count-requires c = let h = sections-low c.args.book.now in search rules
@@ -28,17 +29,13 @@ returns-then-not-is_accepted c = record {
 }
 
 pub sections-n-requires : goal.sections-n-requires
-sections-n-requires c =
-    let s = c.before.before.before.before.before.before in
-    first_word s.args.book.now s.requires
+sections-n-requires c = first_word c.args.book.now c.requires
 
 pub offset-requires : goal.offset-requires
-offset-requires c =
-    let s = c.before.before.before.before.before.before.before in
-    (omega (arith, c.sections-n.ensures.count, sections-low s.args.book.now), s.requires)
+offset-requires c = (omega (arith, c.sections-n.ensures.count, sections-low c.args.book.now), c.requires)
 
 -- all words are counted
-counted : (c : goal.After-offset)
+counted : (c : After-offset)
     → c.offset.result ≡ length (book_words c.args.book.now)
 counted c =
     let b = c.args.book.now in
@@ -48,21 +45,18 @@ counted c =
 pub returns-then-room-offset : goal.returns-then-room-offset
 returns-then-room-offset c = record {
   answer =
-      let t = c.before.before.before in
-      let s = t.args in
-      let b = s.book.now in
-      words-short b _ _ _ _ _ _ (t.before.before.count-answer.ensures (held b).source (held b).target
-      (sym t.word_count.ensures.count) (sym t.word_count-2.ensures.count))
-      (sym t.is_accepted.ensures.test ∙ t.if-not-is_accepted.false) _ (counted c.before) c.if-room-offset.true;
+      let b = c.args.book.now in
+      words-short b _ _ _ _ _ _ (c.count_answer-a.ensures.answer (held b).source (held b).target
+      (sym c.word_count.ensures.count) (sym c.word_count-2.ensures.count))
+      (sym c.is_accepted.ensures.test ∙ c.if-not-is_accepted.false) _ (counted (goal.at.returns-then-room-offset c).After-offset)
+      c.if-room-offset.true;
 }
 
 pub returns : goal.returns
 returns c = record {
   answer =
-      let t = c.before.before.before in
-      let s = t.args in
-      let b = s.book.now in
-      room-good b _ _ _ _ _ _ (t.before.before.count-answer.ensures (held b).source (held b).target
-      (sym t.word_count.ensures.count) (sym t.word_count-2.ensures.count))
-      (sym t.is_accepted.ensures.test ∙ t.if-not-is_accepted.false) _ (counted c.before) c.if-room-offset.false;
+      let b = c.args.book.now in
+      room-good b _ _ _ _ _ _ (c.count_answer-a.ensures.answer (held b).source (held b).target
+      (sym c.word_count.ensures.count) (sym c.word_count-2.ensures.count))
+      (sym c.is_accepted.ensures.test ∙ c.if-not-is_accepted.false) _ (counted (goal.at.returns c).After-offset) c.if-room-offset.false;
 }
