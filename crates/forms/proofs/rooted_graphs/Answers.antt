@@ -3,7 +3,6 @@ use mathlib.Core.Path.{◌≡◌, sym, ◌∙◌}
 use mathlib.Core.Bool.{true}
 use mathlib.Core.List.{[]}
 use lib.ListN.{length}
-use lib.Seq.{length-take-le}
 use Rattle.answers.specs.Answer.{is_accepted}
 use Rattle.sorts.specs.Sorts.{Edition, edition, plain, sorts_of}
 use Rattle.rows.specs.declared.Graph.TheVariants.{Source, Target}
