@@ -23,8 +23,8 @@ pub fn judge(
     ent: &mut [u64],
     words: &mut [u64],
 ) -> Answer
-    ensures* outcome { λ r. ⌜ result_of r (ws0.new ∷ ws1.new ∷ cls.new ∷ ent.new ∷ words.new ∷ [])
-        ≡ judge_by strict book.now ws0.old ws1.old cls.old ent.old words.old ⌝ }
+    ensures outcome { result_of result (ws0.new ∷ ws1.new ∷ cls.new ∷ ent.new ∷ words.new ∷ [])
+        ≡ judge_by strict book.now ws0.old ws1.old cls.old ent.old words.old }
 {
     let shape = book::book_answer(book);
     if !answers::is_accepted(shape) {
@@ -51,10 +51,10 @@ pub fn judge(
 
 // The verdict on a whole input, with work lists that are long enough for every book of at most 65,536 bytes.
 pub fn verdict(strict: bool, book: &[u8]) -> Answer
-    ensures* answer { λ r. ⌜ r ≡ verdict_by strict book.now ⌝ }
-    ensures* sound { λ r. ⌜ (is_accepted r ≡ true → SoundBy (truth strict) (held book.now)) ⌝ }
-    ensures* choices { λ r. ⌜ (is_accepted r ≡ true → SameChoicesBy (held book.now) (truth strict)
-        (classes_left (held book.now))) ⌝ }
+    ensures answer { result ≡ verdict_by strict book.now }
+    ensures sound { is_accepted result ≡ true → SoundBy (truth strict) (held book.now) }
+    ensures choices { is_accepted result ≡ true → SameChoicesBy (held book.now) (truth strict)
+        (classes_left (held book.now)) }
 {
     if 65536 < book.len() {
         return Answer::BookShape(13);
