@@ -24,7 +24,8 @@ use Rattle.lowering.specs.Roots.{Pair, bad_lead, bad_cong, read_pairs, call_pair
 use Rattle.lowering.specs.Matching.{Noted, noted, mapped_arg, select_walk, end_good, call_matches, var_matches, node_matches, matched}
 use Rattle.lowering.specs.Matching.{Kind, var, const, core, select, call, unknown, kind_of, kind_answer, node_answer, row_answer}
 use Rattle.lowering.specs.Lowering.{array_sorts, SourceGraph, TargetGraph, Lowering, Binding, binding_of, entries_of, source_rows, target_rows}
-use Rattle.lowering.specs.Check.{widths_of_target, no_classes, classes_of_reads, dead_variable, answer_of, mismatch, offsets, classes, refuse, first_refusal}
+use Rattle.lowering.specs.Check.{widths_of_target, no_classes, classes_of_reads, dead_variable, answer_of, mismatch, offsets, classes, refuse}
+use Rattle.lowering.specs.Check.{first_refusal}
 use Rattle.lowering.specs.Check.{count_answers, graph_answers, forms_of, root_answers, match_answers}
 use Rattle.lowering.specs.Check.{source_ill, target_ill, source_row_widths, target_row_widths, bit_answers, form_answers}
 use Rattle.lowering.proofs.Refusals.{refusal-append}

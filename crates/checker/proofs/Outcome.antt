@@ -94,7 +94,8 @@ module _ (strict : Bool) (L : Lowering) (ws0 ws1 cls ent : List ℕ) where
         match-done e n = zeroed (whole_is ∙ rw (c, g) (sym e)) n (rw e (keeps-match L))
 
         pub accept-done : a ≡ matching → is_accepted a ≡ true
-            → result_of a ((widths_of_source L ++ replicate (length ws0 - source_rows L) 0) ∷ (widths_of_target L ++ replicate (length ws1 - target_rows L) 0)
+            → result_of a ((widths_of_source L ++ replicate (length ws0 - source_rows L) 0) ∷ (widths_of_target L ++ replicate
+            (length ws1 - target_rows L) 0)
             ∷ (classes L (source_rows L) ++ replicate (length cls - target_rows L) 0) ∷ (offsets L ++ replicate (length ent - target_rows L) 0) ∷ [])
             ≡ check_by strict L ws0 ws1 cls ent
         accept-done e n =

@@ -66,7 +66,8 @@ module _ (strict : Bool) (b : List ℕ) (slice : length b ≤ MAX) where
 
   -- so it is sound and leaves the same choices
   pub verdict-means : (r : Answer) → r ≡ verdict_by strict b
-      → (is_accepted r ≡ true → SoundBy (truth strict) (held b)) × (is_accepted r ≡ true → SameChoicesBy (held b) (truth strict) (classes_left (held b)))
+      → (is_accepted r ≡ true → SoundBy (truth strict) (held b))
+      × (is_accepted r ≡ true → SameChoicesBy (held b) (truth strict) (classes_left (held b)))
   verdict-means r e = (
     λ a. sound strict (held b) (of-source b) (of-target b) (of-target b) (of-target b) small (verdict-accepts strict b r e a),
     λ a. same-choices strict (held b) (of-source b) (of-target b) (of-target b) (of-target b) small (verdict-accepts strict b r e a),

@@ -25,7 +25,8 @@ module _ (strict second : Bool) (w ebits tbits : List ℕ) {R : Told} where
       → R ≡ told_of (check_of strict second w ebits tbits k l m n)
   check-call k l m n {a} {b} {c} {d} {f} {g} {h} {i} {j} {x} p0 p2 p3 p4 p5 p6 p7 p8 p10 p11 e =
       let same : lowering_in (edition second x) a ebits b c d f g h i tbits j
-      ≡ lowering_in (edition second (given w 11)) (given w 0) ebits (given w 2) (given w 3) (given w 4) (given w 5) (given w 6) (given w 7) (given w 8)
+      ≡ lowering_in (edition second (given w 11)) (given w 0) ebits (given w 2) (given w 3) (given w 4) (given w 5) (given w 6) (given w 7)
+      (given w 8)
       tbits (given w 10) =
       rw (p0, p2, p3, p4, p5, p6, p7, p8, p10, p11) in
       e ∙ ap (λ (y : Lowering). told_of (check_by strict y k l m n)) same

@@ -26,7 +26,7 @@ row_value-v-requires c =
         ap (take l.i) l.invariant.2 ∙ numbers-front s.g.now s.bits.now s.given.now l.i _,
         numbers-length s.g.now s.bits.now s.given.now l.i,
       )
-      (row-ready s.g.now s.bits.now s.given.now s.ws.now c.requires.evaluable l.i h);
+          (row-ready s.g.now s.bits.now s.given.now s.ws.now c.requires.evaluable l.i h);
     }
 
 pub loop-i-preserved : goal.loop-i-preserved

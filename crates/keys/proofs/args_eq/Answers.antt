@@ -1,3 +1,4 @@
+-- The goals that search leaves open. Assumes nothing.
 use Rattle.images.proofs.Agree.{agreed-none, agreed-more, agreed-no, agreed-all}
 use Rattle.keys.proofs.args_eq.Goals as goal
 

@@ -16,37 +16,73 @@ eleven : (c : Start) → 11 ≤ sections c.args.book.now
 eleven c = sections-low c.args.book.now
 
 pub list_at-requires : goal.list_at-requires
-list_at-requires c = record { i_bound = (omega (arith, eleven (goal.at.list_at-requires c).Start), c.requires.good); words_value = c.requires.words_value }
+list_at-requires c = record {
+  i_bound = (omega (arith, eleven (goal.at.list_at-requires c).Start), c.requires.good);
+  words_value =
+      c.requires.words_value;
+}
 
 pub body-requires : goal.body-requires
 body-requires c = (omega (arith, eleven (goal.at.body-requires c).Start), c.requires.good)
 
 pub list_at-requires-2 : goal.list_at-requires-2
-list_at-requires-2 c = record { i_bound = (omega (arith, eleven (goal.at.list_at-requires-2 c).Start), c.requires.good); words_value = c.requires.words_value }
+list_at-requires-2 c = record {
+  i_bound = (omega (arith, eleven (goal.at.list_at-requires-2 c).Start), c.requires.good);
+  words_value =
+      c.requires.words_value;
+}
 
 pub list_at-requires-3 : goal.list_at-requires-3
-list_at-requires-3 c = record { i_bound = (omega (arith, eleven (goal.at.list_at-requires-3 c).Start), c.requires.good); words_value = c.requires.words_value }
+list_at-requires-3 c = record {
+  i_bound = (omega (arith, eleven (goal.at.list_at-requires-3 c).Start), c.requires.good);
+  words_value =
+      c.requires.words_value;
+}
 
 pub list_at-requires-4 : goal.list_at-requires-4
-list_at-requires-4 c = record { i_bound = (omega (arith, eleven (goal.at.list_at-requires-4 c).Start), c.requires.good); words_value = c.requires.words_value }
+list_at-requires-4 c = record {
+  i_bound = (omega (arith, eleven (goal.at.list_at-requires-4 c).Start), c.requires.good);
+  words_value =
+      c.requires.words_value;
+}
 
 pub list_at-requires-5 : goal.list_at-requires-5
-list_at-requires-5 c = record { i_bound = (omega (arith, eleven (goal.at.list_at-requires-5 c).Start), c.requires.good); words_value = c.requires.words_value }
+list_at-requires-5 c = record {
+  i_bound = (omega (arith, eleven (goal.at.list_at-requires-5 c).Start), c.requires.good);
+  words_value =
+      c.requires.words_value;
+}
 
 pub list_at-requires-6 : goal.list_at-requires-6
-list_at-requires-6 c = record { i_bound = (omega (arith, eleven (goal.at.list_at-requires-6 c).Start), c.requires.good); words_value = c.requires.words_value }
+list_at-requires-6 c = record {
+  i_bound = (omega (arith, eleven (goal.at.list_at-requires-6 c).Start), c.requires.good);
+  words_value =
+      c.requires.words_value;
+}
 
 pub list_at-requires-7 : goal.list_at-requires-7
-list_at-requires-7 c = record { i_bound = (omega (arith, eleven (goal.at.list_at-requires-7 c).Start), c.requires.good); words_value = c.requires.words_value }
+list_at-requires-7 c = record {
+  i_bound = (omega (arith, eleven (goal.at.list_at-requires-7 c).Start), c.requires.good);
+  words_value =
+      c.requires.words_value;
+}
 
 pub list_at-requires-8 : goal.list_at-requires-8
-list_at-requires-8 c = record { i_bound = (omega (arith, eleven (goal.at.list_at-requires-8 c).Start), c.requires.good); words_value = c.requires.words_value }
+list_at-requires-8 c = record {
+  i_bound = (omega (arith, eleven (goal.at.list_at-requires-8 c).Start), c.requires.good);
+  words_value =
+      c.requires.words_value;
+}
 
 pub body-requires-2 : goal.body-requires-2
 body-requires-2 c = (omega (arith, eleven (goal.at.body-requires-2 c).Start), c.requires.good)
 
 pub list_at-requires-9 : goal.list_at-requires-9
-list_at-requires-9 c = record { i_bound = (omega (arith, eleven (goal.at.list_at-requires-9 c).Start), c.requires.good); words_value = c.requires.words_value }
+list_at-requires-9 c = record {
+  i_bound = (omega (arith, eleven (goal.at.list_at-requires-9 c).Start), c.requires.good);
+  words_value =
+      c.requires.words_value;
+}
 
 pub is_second-requires : goal.is_second-requires
 is_second-requires c = first_word c.args.book.now c.requires.good

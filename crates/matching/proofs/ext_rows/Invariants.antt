@@ -11,9 +11,9 @@ use Rattle.matching.proofs.ext_rows.Given as goal
 abbrev pub invariant-loop-i : goal.invariant-loop-i
 invariant-loop-i l =
     (l.i ≤ l.n) × (length l.cls ≡ length l.initial.cls)
-        × (l.cls ≡ before (binding l.source l.ebits l.eside l.map l.reads l.calls l.cargs l.target l.tbits) (noted l.initial.cls l.ent) l.i) ×
+    × (l.cls ≡ before (binding l.source l.ebits l.eside l.map l.reads l.calls l.cargs l.target l.tbits) (noted l.initial.cls l.ent) l.i) ×
     ((j : ℕ) → j < l.i → refused (binding l.source l.ebits l.eside l.map l.reads l.calls l.cargs l.target l.tbits) (noted l.initial.cls l.ent) j ≡
-        false)
+    false)
 
 abbrev pub decreases-loop-i : goal.decreases-loop-i
 decreases-loop-i l = l.n - l.i

@@ -55,7 +55,8 @@ returns-in-1 c =
     let q = c.row-e.ensures.row in
     let t = c.in-1.is in
     let p =
-    outcome _ _ (ConstMismatch s.i) _ _ _ _ _ _ refl c.const_corr.ensures.test (sym (cond_same c.const_corr.result s.cls.now)) c.matched-in-1.ensures.answer
+    outcome _ _ (ConstMismatch s.i) _ _ _ _ _ _ refl c.const_corr.ensures.test (sym (cond_same c.const_corr.result s.cls.now))
+    c.matched-in-1.ensures.answer
     (const-answer (asked at) (known at) s.i s.r _ q t) (const-classes (asked at) (known at) s.i s.r _ q t) in record { answer = p.0; list = p.1 }
 
 pub returns-in-37 : goal.returns-in-37
@@ -87,5 +88,6 @@ returns-in_default c =
     plain_ready _ _ c.requires.formed _ c.requires.i_bound.0 _ q (λ z. omega arith) (λ z. omega arith) (λ z. omega arith)
     (λ z. omega arith) in
     let p =
-    outcome _ _ (NodeMismatch s.i) _ _ _ _ _ _ refl c.node_corr.ensures.test (sym (cond_same c.node_corr.result s.cls.now)) c.matched-in_default.ensures.answer
+    outcome _ _ (NodeMismatch s.i) _ _ _ _ _ _ refl c.node_corr.ensures.test (sym (cond_same c.node_corr.result s.cls.now))
+    c.matched-in_default.ensures.answer
     (plain-answer (asked at) (known at) s.i s.r _ q t) (plain-classes (asked at) (known at) s.i s.r _ q t) in record { answer = p.0; list = p.1 }

@@ -1,3 +1,4 @@
+-- The goals that search leaves open. Assumes nothing.
 use Prim.Native.Nat.{◌≤◌, ◌<◌, ◌+◌}
 use mathlib.Core.Path.{◌≡◌, ◌∙◌, sym, ap}
 use mathlib.Core.Bool.{true, not}
