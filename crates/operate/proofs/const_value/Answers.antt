@@ -1,6 +1,6 @@
 -- The goals that search leaves open. Assumes nothing.
 use mathlib.Core.Path.{sym, ◌∙◌}
-use Prim.Native.Nat.{◌-◌, ◌+◌}
+use Prim.Native.Nat.{◌+◌}
 use native.Mathlib.Omega.{arith}
 use Rattle.operate.proofs.Constant.{const_step, const-room, const-none, const-all}
 use Rattle.operate.proofs.const_value.Goals as goal
