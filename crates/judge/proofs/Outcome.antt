@@ -115,7 +115,7 @@ module _ (strict : Bool) (b ws0 ws1 cls ent words : List ℕ) where
       go true e n = no_way (sym n)
       go false e n = ltb-false _ _ e
 
--- a result_of by its lists
+-- a result by its lists
 pub by-lists : (a : Answer) (x0 x1 x2 x3 x4 y0 y1 y2 y3 y4 : List ℕ) (z : Result) → x0 ≡ y0 → x1 ≡ y1 → x2 ≡ y2 → x3 ≡ y3 → x4 ≡ y4
     → result_of a (y0 ∷ y1 ∷ y2 ∷ y3 ∷ y4 ∷ []) ≡ z → result_of a (x0 ∷ x1 ∷ x2 ∷ x3 ∷ x4 ∷ []) ≡ z
 by-lists a x0 x1 x2 x3 x4 y0 y1 y2 y3 y4 z e f g h l k = rw (e, f, g, h, l) k

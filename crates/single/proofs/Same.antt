@@ -1,4 +1,4 @@
--- A result_of on copies is the result_of on the case's lists, and a result_of whose parts are the expected ones is the expected one. Assumes nothing.
+-- A result on copies is the result on the case's lists, and a result whose parts are the expected ones is the expected one. Assumes nothing.
 use mathlib.Core.Path.{◌≡◌, ◌∙◌, sym, ap}
 use mathlib.Core.Bool.{Bool, true, false}
 use mathlib.Core.List.{List, [], ◌∷◌}

@@ -16,15 +16,10 @@ returns-then-not-copy_bytes c = record { agreed = λ e. absurd (false≢true e) 
 pub returns : goal.returns
 returns c = record {
   agreed =
-      let else2 = c.before.before.before.before in
-      let at-copy-bytes = else2.before.before in
-      let at-given = at-copy-bytes.before.before in
-      let else1 = at-given.before in
-      let at-has-shape = else1.before in
-      let s = at-has-shape.args in
-      let book = at-copy-bytes.copy_bytes.ensures.copied (else2.if-not-copy_bytes.false) ∙ at-given.given-list.ensures.list in
+      let s = c.args in
+      let book = c.copy_bytes.ensures.copied (c.if-not-copy_bytes.false) ∙ c.given-list.ensures.list in
       let words =
       c.words_of.ensures.words ∙ ap words_of c.verdict-a.ensures.answer
       ∙ ap (λ (x : List ℕ). words_of (verdict_by s.strict x)) book in
-      λ e. (sym at-has-shape.has_shape.ensures.shape ∙ else1.if-not-has_shape.false, sym words ∙ c.same_answer.ensures.equal.0 e);
+      λ e. (sym c.has_shape.ensures.shape ∙ c.if-not-has_shape.false, sym words ∙ c.same_answer.ensures.equal.0 e);
 }

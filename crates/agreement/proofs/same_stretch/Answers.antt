@@ -9,9 +9,8 @@ returns-then-not-same_answer c = record { agreed = λ e. absurd (false≢true e)
 pub returns : goal.returns
 returns c = record {
   agreed =
-      let a = c.before.before.before.before in
       λ e. (
-        sym a.gilfrunt_section_answer-a.ensures.answer ∙ a.same_answer.ensures.equal.0 (c.if-not-same_answer.false),
+        sym c.gilfrunt_section_answer-a.ensures.answer ∙ c.same_answer.ensures.equal.0 (c.if-not-same_answer.false),
         sym c.section.ensures.stretch ∙ c.same_bytes.ensures.equal.0 e ∙ c.expected.ensures.list,
       );
 }

@@ -4,17 +4,8 @@ use Rattle.loaded.specs.Held.{held}
 use Rattle.soundness.specs.Sound.{Sound}
 use Rattle.gilfrunt.proofs.gilfrunt_judge.Goals as goal
 
--- the call's place to the entry's
-abbrev entry : goal.After-judge → goal.Start
-entry c = let lent = c.before.before.before.before.before.before in lent.before.before.before.before.before.before
-
--- demand 3 by this verdict's truth
-demand : (c : goal.After-judge) → c.judge.result.number ≡ 0 → Sound (held (entry c).args.book.now)
-demand c = c.judge.ensures.sound
-
 pub returns : goal.returns
-returns c = record {
-  outcome = let call = c.before.before.before.before.before.before.before.before.before.before in call.judge.ensures.outcome;
-  sound = let call = c.before.before.before.before.before.before.before.before.before.before in demand call;
-  choices = let call = c.before.before.before.before.before.before.before.before.before.before in call.judge.ensures.choices;
-}
+returns c =
+    -- demand 3 by this verdict's truth
+    let demand : c.judge.result.number ≡ 0 → Sound (held c.args.book.now) = c.judge.ensures.sound in
+    record { outcome = c.judge.ensures.outcome; sound = demand; choices = c.judge.ensures.choices }

@@ -7,26 +7,16 @@ use Rattle.line.specs.Line.{line_of}
 use Rattle.printed.proofs.Sound.{line-means}
 use Rattle.printed.proofs.verdict_line.Goals as goal
 
--- the answer is that of the check that was asked for
-answer-is : (c : goal.After-verdict-answer) → (let s = c.args in c.verdict-answer.result ≡ verdict_by s.strict s.book.now)
-answer-is c = c.verdict-answer.ensures.answer
-
 pub returns : goal.returns
-returns c = record {
-  fits = let k = c.before.before.before in
-      let v = k.verdict-answer.ensures in
-      let l = c.write_line.ensures.line ∙ ap line_of c.words_of-words.ensures.words in
-      let r = k.verdict-answer.result in c.write_line.ensures.fits;
-  line = let k = c.before.before.before in
-      let v = k.verdict-answer.ensures in
-      let l = c.write_line.ensures.line ∙ ap line_of c.words_of-words.ensures.words in
-      let r = k.verdict-answer.result in l ∙ ap (λ (a : Answer). line_of (words_of a)) (answer-is k);
-  sound = let k = c.before.before.before in
-      let v = k.verdict-answer.ensures in
-      let l = c.write_line.ensures.line ∙ ap line_of c.words_of-words.ensures.words in
-      let r = k.verdict-answer.result in line-means _ _ r l v.sound;
-  choices = let k = c.before.before.before in
-      let v = k.verdict-answer.ensures in
-      let l = c.write_line.ensures.line ∙ ap line_of c.words_of-words.ensures.words in
-      let r = k.verdict-answer.result in line-means _ _ r l v.choices;
-}
+returns c =
+    let v = c.verdict-answer.ensures in
+    -- the answer is that of the check that was asked for
+    let answer-is : c.verdict-answer.result ≡ verdict_by c.args.strict c.args.book.now = v.answer in
+    let l = c.write_line.ensures.line ∙ ap line_of c.words_of-words.ensures.words in
+    let r = c.verdict-answer.result in
+    record {
+      fits = c.write_line.ensures.fits;
+      line = l ∙ ap (λ (a : Answer). line_of (words_of a)) answer-is;
+      sound = line-means _ _ r l v.sound;
+      choices = line-means _ _ r l v.choices;
+    }

@@ -5,12 +5,9 @@ use Rattle.single.proofs.call_widths.Goals as goal
 pub returns-then-source : goal.returns-then-source
 returns-then-source c = record {
   outcome =
-      let table = c.before.before.before.before in
-      let side = table.before in
-      let rows = side.before.before in
-      let a = rows.args in
-      source-call a.second a.words.now a.bits.now a.widths.now rows.given-rows.ensures.list side.given-side.ensures.list
-      table.given.ensures.list side.if-source.true
+      let a = c.args in
+      source-call a.second a.words.now a.bits.now a.widths.now c.given-rows.ensures.list c.given-side.ensures.list
+      c.given.ensures.list c.if-source.true
       c.source_widths.ensures.outcome;
 }
 

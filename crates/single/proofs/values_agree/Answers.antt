@@ -14,22 +14,12 @@ returns-then-not-copy_bytes c = record { agreed = λ e. absurd (false≢true e) 
 pub returns : goal.returns
 returns c = record {
   agreed =
-      let at-lend2 = c.before.before.before.before.before.before.before in
-      let at-given3 = at-lend2.before.before in
-      let at-lend = at-given3.before.before in
-      let at-given2 = at-lend.before.before in
-      let else2 = at-given2.before in
-      let at-copy-bytes = else2.before.before in
-      let at-given = at-copy-bytes.before.before in
-      let else1 = at-given.before in
-      let at-has-shape = else1.before in
-      let start = at-has-shape.before.before in
-      let w = start.args.words.now in
-      let bits = at-copy-bytes.copy_bytes.ensures.copied (else2.if-not-copy_bytes.false) ∙ at-given.given-bits.ensures.list in
-      let widths = at-lend.lend-n.ensures.copied ∙ at-given2.given.ensures.list in
-      let numbers = at-lend2.lend-m.ensures.copied ∙ at-given3.given-2.ensures.list in
+      let w = c.args.words.now in
+      let bits = c.copy_bytes.ensures.copied (c.if-not-copy_bytes.false) ∙ c.given-bits.ensures.list in
+      let widths = c.lend-n.ensures.copied ∙ c.given.ensures.list in
+      let numbers = c.lend-m.ensures.copied ∙ c.given-2.ensures.list in
       λ e. (
-        sym at-has-shape.has_shape.ensures.shape ∙ else1.if-not-has_shape.false,
+        sym c.has_shape.ensures.shape ∙ c.if-not-has_shape.false,
         values-copied (given w 0) (given w 2) bits widths numbers (c.same_values.ensures.agreed e),
       );
 }

@@ -13,19 +13,11 @@ returns-then-not-copy_bytes c = record { agreed = λ e. absurd (false≢true e) 
 pub returns : goal.returns
 returns c = record {
   agreed =
-      let at-lend = c.before.before.before.before.before in
-      let at-given2 = at-lend.before.before in
-      let else2 = at-given2.before in
-      let at-copy-bytes = else2.before.before in
-      let at-given = at-copy-bytes.before.before in
-      let else1 = at-given.before in
-      let at-has-shape = else1.before in
-      let start = at-has-shape.before.before in
-      let a = start.args in
-      let bits = at-copy-bytes.copy_bytes.ensures.copied (else2.if-not-copy_bytes.false) ∙ at-given.given-bits.ensures.list in
-      let lent = at-lend.lend-n.ensures.copied ∙ at-given2.given.ensures.list in
+      let a = c.args in
+      let bits = c.copy_bytes.ensures.copied (c.if-not-copy_bytes.false) ∙ c.given-bits.ensures.list in
+      let lent = c.lend-n.ensures.copied ∙ c.given.ensures.list in
       λ e. (
-        sym at-has-shape.has_shape.ensures.shape ∙ else1.if-not-has_shape.false,
+        sym c.has_shape.ensures.shape ∙ c.if-not-has_shape.false,
         widths-copied a.source a.second a.words.now bits lent (c.same_widths.ensures.agreed e),
       );
 }

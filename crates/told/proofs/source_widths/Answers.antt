@@ -1,4 +1,4 @@
--- The operation's result_of, its answer told in words. Assumes nothing.
+-- The operation's result, its answer told in words. Assumes nothing.
 use mathlib.Core.Path.{ap}
 use Rattle.answers.specs.Result.{told_of}
 use Rattle.told.proofs.source_widths.Goals as goal
