@@ -20,7 +20,7 @@ eqb-sym a b = go (eqb a b) refl
     go true e = sym (eq-eqb b a (sym (eqb-true a b e)))
     go false e = sym (ne_eqb b a (λ z. eqb-false a b e (sym z)))
 
--- number, count and result_of with the rows, then the function: the function, then the rows
+-- number, count and result with the rows, then the function: the function, then the rows
 regroup : (a b c d e : Bool)
     → all (all (all (a ∷ b ∷ c ∷ []) ∷ e ∷ []) ∷ all (all (a ∷ b ∷ c ∷ []) ∷ d ∷ []) ∷ []) ≡ all (all (a ∷ b ∷ c ∷ d ∷ []) ∷ e ∷ [])
 unfolding all
@@ -47,7 +47,7 @@ module _ (calls cargs ws : List ℕ) where
   unfolding same_function
   same-function-at p q k l e f = rw (e, f) (three _ _ _ _)
 
-  -- entry l has entry k's number, count and result_of width, or is of another function
+  -- entry l has entry k's number, count and result width, or is of another function
   abbrev pub alike : ℕ → ℕ → Bool
   alike k l = function_is calls ws (l * 4) (call_function calls k) (arg_count calls k) (result_width calls ws k)
 

@@ -1,4 +1,4 @@
--- Number, count and result_of, then the arguments' widths: the definition's order. Assumes nothing.
+-- Number, count and result, then the arguments' widths: the definition's order. Assumes nothing.
 use Prim.Native.Nat.{◌+◌}
 use mathlib.Core.Path.{◌≡◌, ◌∙◌, sym}
 use borrow.Author.Tests.{eqb-true}
