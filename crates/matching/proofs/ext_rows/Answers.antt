@@ -1,12 +1,10 @@
--- The goals that search leaves open. Assumes nothing.
-use Prim.Native.Nat.{◌-◌}
 use mathlib.Core.Path.{refl, ◌∙◌, ap}
-use mathlib.Core.Bool.{false, not}
+use mathlib.Core.Bool.{not}
 use native.Mathlib.Nat.{not-suc-le-zero}
 use native.Mathlib.Omega.{arith}
 use Rattle.lowering.specs.Lowering.{Binding, binding}
 use Rattle.lowering.specs.Matching.{Noted, noted}
-use Rattle.matching.proofs.Loop.{before, rows_start, rows-stop, rows_more, rows_end}
+use Rattle.matching.proofs.Loop.{rows_start, rows-stop, rows_more, rows_end}
 use Rattle.matching.proofs.ext_rows.Goals as goal
 use Rattle.matching.proofs.ext_rows.Goals.{After-row_count-n}
 
