@@ -31,7 +31,7 @@ module _ (target ws : List ℕ) (even : EqsEven target ws) where
       let pos = ltb-true 0 k p in
       nest-even xs ys (k - 1) _ rows l (omega arith)
 
-  -- entries of one number, count and result_of whose root stands
+  -- entries of one number, count and result whose root stands
   module _ (calls cargs troots : List ℕ) (k l q : ℕ) (stands : root_at troots (call_root calls cargs target) q (pair k l) ≡ true) where
     arguments-even : (x : ℕ) → x < arg_count calls k → arg_width calls cargs ws k x ≡ arg_width calls cargs ws l x
     unfolding root_at

@@ -21,7 +21,7 @@ module _ (tr : List ℕ) (test : ℕ → Pair → Bool) (from : ℕ) (ps : List 
   abbrev bad : ℕ
   bad = bad_cong tr test from ps
 
-  -- a walk's result_of: some root is missing, and where; or all stand, and what comes after them
+  -- a walk's result: some root is missing, and where; or all stand, and what comes after them
   module _ (c : Cong) (e : c ≡ walked tr test from ps) where
     ok-is : c.ok ≡ eqb bad (length ps)
     ok-is = ap (λ (x : Cong). x.ok) e ∙ walked-ok tr test from ps
