@@ -17,7 +17,7 @@ abbrev pub left : Answer → List (List ℕ × List ℕ) → List (List ℕ)
 left a [] = []
 left a (list ∷ lists) = lent a list.0 list.1 ∷ left a lists
 
--- an operation's result_of: its answer, and the lists that it leaves
+-- an operation's result: its answer, and the lists that it leaves
 abbrev pub leaves : Answer → List (List ℕ × List ℕ) → Result
 leaves a lists = result_of a (left a lists)
 

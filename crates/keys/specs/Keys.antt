@@ -8,7 +8,7 @@ use Rattle.lowering.specs.Tables.{call_start, arg_count}
 abbrev pub read_is : List ℕ → ℕ → ℕ → ℕ → Bool
 read_is reads off array index = all (eqb (get_or reads (off + 1) 0) array ∷ eqb (get_or reads (off + 2) 0) index ∷ [])
 
--- the call entry at an offset has this function number, count and result_of width
+-- the call entry at an offset has this function number, count and result width
 abbrev pub function_is : List ℕ → List ℕ → ℕ → ℕ → ℕ → ℕ → Bool
 function_is calls ws off f n w =
     all (eqb (get_or calls (off + 1) 0) f ∷ eqb (get_or calls (off + 3) 0) n ∷ eqb (get_or ws (get_or calls off 0) 0) w ∷ [])

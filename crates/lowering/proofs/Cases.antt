@@ -203,7 +203,7 @@ unfolding first_refusal build first all agree trace row_is both_const same_const
 cases-ceiling = refl
 
 -- functions told apart by their widths (02, 2.7). Two calls without arguments, each with its variable: of 8 and 16 bits they are two functions and
--- accepted, of 8 bits both they have one key, 6. With one argument row, at two result_of widths, no root is due
+-- accepted, of 8 bits both they have one key, 6. With one argument row, at two result widths, no root is due
 abbrev two-results : ℕ → ℕ → ℕ → Lowering
 two-results w v k =
     lowering (s5 0 8 0 0 0 (s5 38 3 w 0 k (s5 38 3 v 0 k []))) [] (0 ∷ []) [] (0 ∷ 1 ∷ 2 ∷ []) [] (1 ∷ 3 ∷ 0 ∷ k ∷ 2 ∷ 3 ∷ 0 ∷ k ∷ []) (0 ∷ [])

@@ -54,14 +54,14 @@ call_arg calls cargs k l = get_or cargs (call_start calls k + l) 0
 unfoldable pub same_read : List ℕ → ℕ → ℕ → Bool
 same_read reads k l = all (eqb (read_array reads k) (read_array reads l) ∷ eqb (read_index reads k) (read_index reads l) ∷ [])
 
--- the widths of a call, ws being the target's: of its result_of, which is its variable's row, and of its arguments
+-- the widths of a call, ws being the target's: of its result, which is its variable's row, and of its arguments
 abbrev pub result_width : List ℕ → List ℕ → ℕ → ℕ
 result_width calls ws k = get_or ws (call_var calls k) 0
 
 abbrev pub arg_width : List ℕ → List ℕ → List ℕ → ℕ → ℕ → ℕ
 arg_width calls cargs ws k l = get_or ws (call_arg calls cargs k l) 0
 
--- "Two calls are now of one function only when number, count, argument widths and result_of width all agree" (02, 2.7)
+-- "Two calls are now of one function only when number, count, argument widths and result width all agree" (02, 2.7)
 unfoldable pub same_function : List ℕ → List ℕ → List ℕ → ℕ → ℕ → Bool
 same_function calls cargs ws k l =
     all

@@ -1,5 +1,5 @@
 -- In a well-formed source, under an interpretation of its kind, every row's value has the row's width and lies below 2 ^ width: core rows as in a
--- target, a Select by its pairs' rows or the cell, a Call by its result_of. Assumes nothing.
+-- target, a Select by its pairs' rows or the cell, a Call by its result. Assumes nothing.
 use Prim.Native.Nat.{ℕ, zero, suc, ◌+◌, ◌*◌, ◌<◌, ◌≤◌, ◌^◌}
 use mathlib.Core.Path.{◌≡◌, sym, ap, ◌∙◌, subst}
 use mathlib.Core.Bool.{Bool, true, false, cond}

@@ -129,7 +129,7 @@ module _ (σ : Sorts) (g bits side : List ℕ) (I : Interpretation) where
   named-satisfies = kind-satisfies σ Every g bits side I (λ i f w s k h e. tt)
 
 -- ---- in a well-formed source, a symbol at the lists of values that it takes: as many as the Call has arguments, of their rows' widths
--- ("A function symbol is its number, argument count, argument widths and result_of width")
+-- ("A function symbol is its number, argument count, argument widths and result width")
 abbrev pub OfSymbol : List ℕ → List ℕ → ℕ → ℕ → List Val → Type 0
 OfSymbol side ws s k vs = (length vs ≡ k) × ((l : ℕ) → l < k → wid (arg vs l) ≡ get_or ws (get_or side (s + l) 0) 0)
 

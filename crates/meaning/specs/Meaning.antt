@@ -14,7 +14,7 @@ use Rattle.value.specs.Val.{Val, val, wid, nat}
 use Rattle.value.specs.Graph.{node_value, value, Assigns}
 
 -- "An interpretation of a source gives each Var row, array and function symbol in it a value of its kind". An array gives a cell to each
--- index; a function symbol is its number, result_of width, and the count and widths of its arguments, which the list of values holds
+-- index; a function symbol is its number, result width, and the count and widths of its arguments, which the list of values holds
 pub record Interpretation : Type 0 where
   pub variable : ℕ → ℕ
   pub array : ℕ → ℕ → ℕ

@@ -243,7 +243,7 @@ module _ (L : Lowering) (F : Formed L) (M : Matched L) (A : ℕ → ℕ) (fits :
         let (k, l, e) = M.of-root q h in
         eq-eqb _ _ (ap nat (backward-agree (get_or L.eroots q 0) k) ∙ rw (← e) (eqb-true _ _ (true-roots q l)))
 
-  -- it gives each variable, cell and result_of a number of its kind
+  -- it gives each variable, cell and result a number of its kind
   pub interpretation-fits : OfKind (array_sorts L) J L.source.rows → OfKind (array_sorts L) I L.source.rows
   interpretation-fits kinds =
       record {

@@ -62,7 +62,7 @@ same_vals (u ∷ us) [] = false
 same_vals (u ∷ us) (v ∷ vs) = all (same_val u v ∷ same_vals us vs ∷ [])
 
 module _ (L : Lowering) (A : ℕ → ℕ) where
-  -- an entry of array a whose index has the number x; one of function f with result_of width w whose arguments have these values
+  -- an entry of array a whose index has the number x; one of function f with result width w whose arguments have these values
   unfoldable pub read_hit : ℕ → ℕ → ℕ → Bool
   read_hit a x q = all (eqb (read_array L.reads q) a ∷ eqb (nat (value_of_target L A (read_index L.reads q))) x ∷ [])
 
@@ -80,7 +80,7 @@ module _ (L : Lowering) (A : ℕ → ℕ) where
   abbrev pub call_at : ℕ → ℕ → List Val → ℕ
   call_at f w vs = first (call_hit f w vs) (call_count L.calls)
 
-  -- the interpretation that belongs to an assignment: a mapped variable has its image's number, a cell and a function's result_of the number of
+  -- the interpretation that belongs to an assignment: a mapped variable has its image's number, a cell and a function's result the number of
   -- the first entry's variable that hits it; J counts elsewhere
   unfoldable pub interpretation : Interpretation → Interpretation
   interpretation J =
