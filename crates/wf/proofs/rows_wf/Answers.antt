@@ -35,13 +35,13 @@ pub row-r-requires : goal.row-r-requires
 row-r-requires c = omega (arith, c.loop-i-test.true, c.requires.from_le_to.1)
 
 pub returns-then-tags-r : goal.returns-then-tags-r
-returns-then-tags-r c = record {
-  place = let l = c.loop-i in
-      let bad = le-ltb _ _ (rw (c.tag_count-tags.ensures.count, c.row-r.ensures.row) at c.if-tags-r.true) in (l.invariant.0, l.invariant.1);
-  part = let l = c.loop-i in
-      let bad = le-ltb _ _ (rw (c.tag_count-tags.ensures.count, c.row-r.ensures.row) at c.if-tags-r.true) in
-      λ σ base one start. (l.invariant.3 σ base one start, λ h. rw bad);
-}
+returns-then-tags-r c =
+    let l = c.loop-i in
+    let bad = le-ltb _ _ (rw (c.tag_count-tags.ensures.count, c.row-r.ensures.row) at c.if-tags-r.true) in
+    record {
+      place = (l.invariant.0, l.invariant.1);
+      part = λ σ base one start. (l.invariant.3 σ base one start, λ h. rw bad);
+    }
 
 -- the tag is one of the graph's, so it has a line
 below : (c : goal.Else-tags-r)
