@@ -1,3 +1,4 @@
+-- The goals that search leaves open. Assumes nothing.
 use mathlib.Core.Path.{sym, ap}
 use mathlib.Core.Bool.{not}
 use native.Mathlib.Nat.{not-suc-le-zero}
