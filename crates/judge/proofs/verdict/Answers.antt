@@ -1,9 +1,7 @@
 -- A book that is short enough has room in lists of these lengths; so has its target, which makes acceptance sound. Assumes nothing.
-use mathlib.Core.Path.{◌≡◌, ap, ◌∙◌}
+use mathlib.Core.Path.{ap, ◌∙◌}
 use native.Mathlib.Omega.{arith}
-use Rattle.answers.specs.declared.Answer.TheVariants.{BookShape}
 use Rattle.answers.specs.Result.{Result}
-use Rattle.judge.specs.Judge.{verdict_by}
 use Rattle.judge.proofs.Room.{too_long, verdict-is}
 use Rattle.judge.proofs.Sound.{verdict-means}
 use Rattle.judge.proofs.verdict.Goals as goal
