@@ -919,7 +919,7 @@ class Failures(unittest.TestCase):
     @unittest.skipUnless(os.path.exists("/dev/full"), "no /dev/full")
     def test_write(self):
         with open("/dev/full", "wb") as full:
-            self.assertEqual(self.verdict(input=sample("reply", ".book"), stdout=full)[0], 0)
+            self.assertEqual(self.verdict(input=sample("reply", ".book"), stdout=full)[0], 1)
 
     def test_stack(self):
         for kibibytes, outcome in ((128, (-signal.SIGSEGV, b"")), (512, (0, b"accepted\n"))):

@@ -123,10 +123,10 @@ class Tags(unittest.TestCase):
 
     def test_definitions(self):
         text = content("crates", "rows", "specs", "Tags.antt")
-        numbers = re.findall(r"(?m)^t(\w+) = (\d+)$", text)
+        numbers = re.findall(r"(?m)^t_(\w+) = (\d+)$", text)
         self.assertGreater(len(numbers), 10)
         for name, number in numbers:
-            self.assertEqual(TAGS[int(number)].name, name)
+            self.assertEqual(TAGS[int(number)].name.lower(), name.replace("_", ""))
 
     def test_header(self):
         self.assertEqual(enumerators("gilfrunt_tag"),
@@ -167,7 +167,7 @@ class Answers(unittest.TestCase):
 
     def test_exports(self):
         """Every exported function is in the header and on the page, and no other is."""
-        code = content("crates", "gilfrunt", "src", "lib.rt")
+        code = content("crates", "gilfrunt_c", "src", "lib.rt")
         exported = re.findall(r'extern "C" fn (\w+)', code)
         declared = re.findall(r"(?m)^gilfrunt_\w+ (gilfrunt_\w+)\(",
                               content("include", "gilfrunt.h"))
