@@ -1,8 +1,9 @@
 // The programs verdict and strict_verdict: a book from the file that the argument names, or from standard input, and its line on standard output.
 #![tactic(auto)]
 
+use std::env::{Env, FillError};
 use std::io::{self, Read, Write};
-use std::{env, fs};
+use std::{fs, str};
 
 // One byte more than the longest book is read, so that a longer one is seen.
 fn print_verdict<R: Read>(rt: &impl Print, strict: bool, input: &mut R) -> io::Result<()> {
@@ -13,14 +14,33 @@ fn print_verdict<R: Read>(rt: &impl Print, strict: bool, input: &mut R) -> io::R
     io::writer(rt).write_all(&out[..k])
 }
 
-// What went wrong, behind the name of the file.
-fn print_file_verdict(rt: &HostRuntime, strict: bool, path: &str) -> io::Result<()> {
+// What went wrong, behind the program's name.
+fn fail(rt: &impl Eprint, strict: bool, why: &str) -> io::Result<()> {
+    if strict {
+        return eprintln!(rt; "strict_verdict: {why}");
+    }
+    eprintln!(rt; "verdict: {why}")
+}
+
+// What went wrong with a file stands behind its name.
+fn print_named_verdict(rt: &HostRuntime, strict: bool, path: &str) -> io::Result<()> {
     match fs::open(rt, path) {
         Ok(file) => {
             let mut file = file;
             print_verdict(rt, strict, &mut file)
         }
         Err(error) => eprintln!(rt; "{path}: {error}"),
+    }
+}
+
+fn print_file_verdict(rt: &HostRuntime, strict: bool) -> io::Result<()> {
+    let mut path = [0u8; 4096];
+    match rt.arg(1, &mut path) {
+        Ok(n) => match str::from_utf8(&path[..n]) {
+            Ok(text) => print_named_verdict(rt, strict, text),
+            Err(_) => fail(rt, strict, "File name is not UTF-8"),
+        },
+        Err(_) => fail(rt, strict, "File name too long"),
     }
 }
 
@@ -31,14 +51,21 @@ fn print_usage(rt: &impl Eprint, strict: bool) -> io::Result<()> {
     rt.eprintln("usage: verdict [BOOK]")
 }
 
-pub fn run(rt: &HostRuntime, strict: bool) -> io::Result<()> {
-    let mut args = env::args(rt)?;
-    let _program = args.next();
-    match args.next() {
-        None => print_verdict(rt, strict, &mut rt.reader()),
-        Some(path) => match args.next() {
-            None => print_file_verdict(rt, strict, path.as_str()),
-            Some(_) => print_usage(rt, strict),
-        },
+// Whether there is an argument i, whatever its bytes.
+fn is_given(rt: &impl Env, i: usize) -> bool {
+    let mut start = [0u8; 1];
+    match rt.arg(i, &mut start) {
+        Err(FillError::NotPresent) => false,
+        _ => true,
     }
+}
+
+pub fn run(rt: &HostRuntime, strict: bool) -> io::Result<()> {
+    if !is_given(rt, 1) {
+        return print_verdict(rt, strict, &mut rt.reader());
+    }
+    if !is_given(rt, 2) {
+        return print_file_verdict(rt, strict);
+    }
+    print_usage(rt, strict)
 }
