@@ -2,8 +2,7 @@
 use mathlib.Core.Path.{◌≡◌, refl, sym, ◌∙◌}
 use mathlib.Core.Bool.{Bool, true, false, cond}
 use Rattle.lists.proofs.Choice.{no_way}
-use Rattle.answers.specs.declared.Answer.{Answer}
-use Rattle.answers.specs.Answer.{is_accepted, and_then}
+use Rattle.answers.specs.Answer.{Answer, is_accepted, and_then}
 
 pub accepts-both : (a b : Answer) → is_accepted (and_then a b) ≡ true → (is_accepted a ≡ true) × (is_accepted b ≡ true)
 accepts-both a b e = go (is_accepted a) refl e

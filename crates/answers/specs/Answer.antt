@@ -1,51 +1,115 @@
--- Answers as numbers, and what each leaves in a lent list (01, 'Operations and what they refuse'). Assumes nothing.
-use Rattle.std.specs.Prelude.{ℕ, ◌-◌, Bool, true, false, cond, List, ◌++◌, eqb, length, replicate}
-use Rattle.answers.specs.declared.Answer.{Answer}
-use Rattle.answers.specs.declared.Answer.TheVariants.{Accepted, Ext, Core, MapLength, MapOutOfRange, ReadTable, CallTable, VarClass}
-use Rattle.answers.specs.declared.Answer.TheVariants.{ConstMismatch, NodeMismatch, ChainMismatch, CallMismatch, RootMismatch}
-use Rattle.answers.specs.declared.Answer.TheVariants.{CongruenceMismatch, DeadEntry, RowCount, BadRow, BadBit, WorkShort, BadRoot, BookShape}
-use Rattle.answers.specs.declared.Answer.TheVariants.{TooWide, ValueCount, ValueRange, NoSection, CellTable, FunctionCells, RootFalse}
-use Rattle.answers.specs.declared.Answer.TheVariants.{SortTable, NoRows, BookFull, ListShort}
+-- Answers, and what each leaves in a lent list (01, 'Operations and what they refuse'). Assumes nothing.
+use Rattle.std.specs.Prelude.{ℕ, ◌-◌, Bool, false, cond, List, ◌++◌, eqb, length, replicate, Result, Ok, Err}
+use Rattle.answers.specs.declared.Refusal.{Refusal}
+use Rattle.answers.specs.declared.Refusal.TheVariants as why
 use Rattle.answers.specs.declared.Words.{Words}
+use Rattle.answers.specs.Refusal.{words, words_of_refusal, writes_nothing}
 
-abbrev pub words : ℕ → ℕ → ℕ → Words
-words n p d = record { number = n; place = p; detail = d }
+-- acceptance, or why it is refused
+abbrev pub Answer : Type 0
+Answer = Result (Unit {0}) Refusal
 
--- "An answer is a number with place and detail; acceptance is number 0, and a place or detail not named is 0". `ListShort` is 02's late 18 (2.3),
--- of a list that turns out too short after it was begun
+abbrev pub Accepted : Answer
+Accepted = Ok tt
+
+-- each refusal as an answer
+abbrev pub Ext : ℕ → Answer
+Ext row = Err (why.Ext row)
+
+abbrev pub Core : ℕ → Answer
+Core row = Err (why.Core row)
+
+abbrev pub MapLength : ℕ → ℕ → Answer
+MapLength expected found = Err (why.MapLength expected found)
+
+abbrev pub MapOutOfRange : ℕ → Answer
+MapOutOfRange row = Err (why.MapOutOfRange row)
+
+abbrev pub ReadTable : ℕ → Answer
+ReadTable entry = Err (why.ReadTable entry)
+
+abbrev pub CallTable : ℕ → Answer
+CallTable entry = Err (why.CallTable entry)
+
+abbrev pub VarClass : ℕ → Answer
+VarClass row = Err (why.VarClass row)
+
+abbrev pub ConstMismatch : ℕ → Answer
+ConstMismatch row = Err (why.ConstMismatch row)
+
+abbrev pub NodeMismatch : ℕ → Answer
+NodeMismatch row = Err (why.NodeMismatch row)
+
+abbrev pub ChainMismatch : ℕ → Answer
+ChainMismatch row = Err (why.ChainMismatch row)
+
+abbrev pub CallMismatch : ℕ → Answer
+CallMismatch row = Err (why.CallMismatch row)
+
+abbrev pub RootMismatch : ℕ → Answer
+RootMismatch position = Err (why.RootMismatch position)
+
+abbrev pub CongruenceMismatch : ℕ → Answer
+CongruenceMismatch position = Err (why.CongruenceMismatch position)
+
+abbrev pub DeadEntry : ℕ → Answer
+DeadEntry variable = Err (why.DeadEntry variable)
+
+abbrev pub RowCount : ℕ → Answer
+RowCount graph = Err (why.RowCount graph)
+
+abbrev pub BadRow : ℕ → ℕ → Answer
+BadRow row graph = Err (why.BadRow row graph)
+
+abbrev pub BadBit : ℕ → ℕ → Answer
+BadBit position graph = Err (why.BadBit position graph)
+
+abbrev pub WorkShort : ℕ → Answer
+WorkShort list = Err (why.WorkShort list)
+
+abbrev pub BadRoot : ℕ → ℕ → Answer
+BadRoot position graph = Err (why.BadRoot position graph)
+
+abbrev pub BookShape : ℕ → Answer
+BookShape place = Err (why.BookShape place)
+
+abbrev pub TooWide : ℕ → ℕ → Answer
+TooWide row graph = Err (why.TooWide row graph)
+
+abbrev pub ValueCount : ℕ → ℕ → Answer
+ValueCount expected found = Err (why.ValueCount expected found)
+
+abbrev pub ValueRange : ℕ → Answer
+ValueRange row = Err (why.ValueRange row)
+
+abbrev pub NoSection : Answer
+NoSection = Err why.NoSection
+
+abbrev pub CellTable : ℕ → Answer
+CellTable entry = Err (why.CellTable entry)
+
+abbrev pub FunctionCells : ℕ → Answer
+FunctionCells entry = Err (why.FunctionCells entry)
+
+abbrev pub RootFalse : ℕ → Answer
+RootFalse position = Err (why.RootFalse position)
+
+abbrev pub SortTable : ℕ → Answer
+SortTable entry = Err (why.SortTable entry)
+
+abbrev pub NoRows : ℕ → Answer
+NoRows section = Err (why.NoRows section)
+
+abbrev pub BookFull : Answer
+BookFull = Err why.BookFull
+
+abbrev pub ListShort : ℕ → Answer
+ListShort list = Err (why.ListShort list)
+
+-- "acceptance is number 0"
 abbrev pub words_of : Answer → Words
-words_of Accepted = words 0 0 0
-words_of (Ext row) = words 1 row 0
-words_of (Core row) = words 2 row 0
-words_of (MapLength expected found) = words 3 expected found
-words_of (MapOutOfRange row) = words 4 row 0
-words_of (ReadTable entry) = words 5 entry 0
-words_of (CallTable entry) = words 6 entry 0
-words_of (VarClass row) = words 7 row 0
-words_of (ConstMismatch row) = words 8 row 0
-words_of (NodeMismatch row) = words 9 row 0
-words_of (ChainMismatch row) = words 10 row 0
-words_of (CallMismatch row) = words 11 row 0
-words_of (RootMismatch position) = words 12 position 0
-words_of (CongruenceMismatch position) = words 13 position 0
-words_of (DeadEntry variable) = words 14 variable 0
-words_of (RowCount graph) = words 15 graph 0
-words_of (BadRow row graph) = words 16 row graph
-words_of (BadBit position graph) = words 17 position graph
-words_of (WorkShort list) = words 18 list 0
-words_of (BadRoot position graph) = words 19 position graph
-words_of (BookShape place) = words 20 place 0
-words_of (TooWide row graph) = words 21 row graph
-words_of (ValueCount expected found) = words 22 expected found
-words_of (ValueRange row) = words 23 row 0
-words_of NoSection = words 24 0 0
-words_of (CellTable entry) = words 25 entry 0
-words_of (FunctionCells entry) = words 26 entry 0
-words_of (RootFalse position) = words 27 position 0
-words_of (SortTable entry) = words 28 entry 0
-words_of (NoRows section) = words 29 section 0
-words_of BookFull = words 30 0 0
-words_of (ListShort list) = words 18 list 0
+words_of (Ok _) = words 0 0 0
+words_of (Err refusal) = words_of_refusal refusal
 
 abbrev pub is_accepted : Answer → Bool
 is_accepted a = eqb (words_of a).number 0
@@ -56,38 +120,8 @@ and_then a next = cond (is_accepted a) next a
 
 -- "15 and 18 write nothing"; the late 18 zeroes
 abbrev pub keeps : Answer → Bool
-keeps Accepted = false
-keeps (Ext row) = false
-keeps (Core row) = false
-keeps (MapLength expected found) = false
-keeps (MapOutOfRange row) = false
-keeps (ReadTable entry) = false
-keeps (CallTable entry) = false
-keeps (VarClass row) = false
-keeps (ConstMismatch row) = false
-keeps (NodeMismatch row) = false
-keeps (ChainMismatch row) = false
-keeps (CallMismatch row) = false
-keeps (RootMismatch position) = false
-keeps (CongruenceMismatch position) = false
-keeps (DeadEntry variable) = false
-keeps (RowCount graph) = true
-keeps (BadRow row graph) = false
-keeps (BadBit position graph) = false
-keeps (WorkShort list) = true
-keeps (BadRoot position graph) = false
-keeps (BookShape place) = false
-keeps (TooWide row graph) = false
-keeps (ValueCount expected found) = false
-keeps (ValueRange row) = false
-keeps NoSection = false
-keeps (CellTable entry) = false
-keeps (FunctionCells entry) = false
-keeps (RootFalse position) = false
-keeps (SortTable entry) = false
-keeps (NoRows section) = false
-keeps BookFull = false
-keeps (ListShort list) = false
+keeps (Ok _) = false
+keeps (Err refusal) = writes_nothing refusal
 
 -- "any other refusal zeroes all .. lists. Acceptance leaves [the list's contents], zeros after the last row":
 -- what a lent list holds afterwards, by the answer, what it held and what acceptance writes

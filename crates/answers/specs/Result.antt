@@ -1,8 +1,7 @@
 -- What an operation leaves: its answer and its lent lists (01, 'Operations and what they refuse'). Assumes nothing.
 use Rattle.std.specs.Prelude.{ℕ, List, [], ◌∷◌}
-use Rattle.answers.specs.declared.Answer.{Answer}
 use Rattle.answers.specs.declared.Words.{Words}
-use Rattle.answers.specs.Answer.{words_of, lent}
+use Rattle.answers.specs.Answer.{Answer, words_of, lent}
 
 -- an answer and what stands in the lent lists afterwards, in the order lent
 pub record Result : Type 0 where

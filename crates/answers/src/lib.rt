@@ -3,11 +3,11 @@
 
 ghost use Rattle.std.specs.Prelude.{◌≡◌};
 ghost use Rattle.answers.specs.Answer.{words_of, is_accepted};
+ghost use Rattle.answers.specs.Refusal.{words, words_of_refusal};
 
-// What an operation answers: acceptance or the refusal, with the values that it names.
-#[derive(Clone, Copy)]
-pub enum Answer {
-    Accepted,
+// Why an operation refuses, with the values that the refusal names.
+#[derive(Clone, Copy, PartialEq, Eq)]
+pub enum Refusal {
     // row of the source
     Ext(u64),
     // row of the target
@@ -66,185 +66,90 @@ pub enum Answer {
     ListShort(u64),
 }
 
+// What an operation answers: acceptance, or why it refuses.
+pub type Answer = Result<(), Refusal>;
+
 // An answer as three words.
 #[repr(C)]
-#[derive(Clone, Copy)]
+#[derive(Clone, Copy, PartialEq, Eq)]
 pub struct Words {
     pub number: u64,
     pub place: u64,
     pub detail: u64,
 }
 
-pub fn words_of(a: Answer) -> Words
-    ensures words { result ≡ words_of a }
-{
-    match a {
-        Answer::Accepted => Words {
-            number: 0,
-            place: 0,
-            detail: 0,
-        },
-        Answer::Ext(row) => Words {
-            number: 1,
-            place: row,
-            detail: 0,
-        },
-        Answer::Core(row) => Words {
-            number: 2,
-            place: row,
-            detail: 0,
-        },
-        Answer::MapLength(expected, found) => Words {
-            number: 3,
-            place: expected,
-            detail: found,
-        },
-        Answer::MapOutOfRange(row) => Words {
-            number: 4,
-            place: row,
-            detail: 0,
-        },
-        Answer::ReadTable(entry) => Words {
-            number: 5,
-            place: entry,
-            detail: 0,
-        },
-        Answer::CallTable(entry) => Words {
-            number: 6,
-            place: entry,
-            detail: 0,
-        },
-        Answer::VarClass(row) => Words {
-            number: 7,
-            place: row,
-            detail: 0,
-        },
-        Answer::ConstMismatch(row) => Words {
-            number: 8,
-            place: row,
-            detail: 0,
-        },
-        Answer::NodeMismatch(row) => Words {
-            number: 9,
-            place: row,
-            detail: 0,
-        },
-        Answer::ChainMismatch(row) => Words {
-            number: 10,
-            place: row,
-            detail: 0,
-        },
-        Answer::CallMismatch(row) => Words {
-            number: 11,
-            place: row,
-            detail: 0,
-        },
-        Answer::RootMismatch(position) => Words {
-            number: 12,
-            place: position,
-            detail: 0,
-        },
-        Answer::CongruenceMismatch(position) => Words {
-            number: 13,
-            place: position,
-            detail: 0,
-        },
-        Answer::DeadEntry(variable) => Words {
-            number: 14,
-            place: variable,
-            detail: 0,
-        },
-        Answer::RowCount(graph) => Words {
-            number: 15,
-            place: graph,
-            detail: 0,
-        },
-        Answer::BadRow(row, graph) => Words {
-            number: 16,
-            place: row,
-            detail: graph,
-        },
-        Answer::BadBit(position, graph) => Words {
-            number: 17,
-            place: position,
-            detail: graph,
-        },
-        Answer::WorkShort(list) => Words {
-            number: 18,
-            place: list,
-            detail: 0,
-        },
-        Answer::BadRoot(position, graph) => Words {
-            number: 19,
-            place: position,
-            detail: graph,
-        },
-        Answer::BookShape(place) => Words {
-            number: 20,
-            place: place,
-            detail: 0,
-        },
-        Answer::TooWide(row, graph) => Words {
-            number: 21,
-            place: row,
-            detail: graph,
-        },
-        Answer::ValueCount(expected, found) => Words {
-            number: 22,
-            place: expected,
-            detail: found,
-        },
-        Answer::ValueRange(row) => Words {
-            number: 23,
-            place: row,
-            detail: 0,
-        },
-        Answer::NoSection => Words {
-            number: 24,
-            place: 0,
-            detail: 0,
-        },
-        Answer::CellTable(entry) => Words {
-            number: 25,
-            place: entry,
-            detail: 0,
-        },
-        Answer::FunctionCells(entry) => Words {
-            number: 26,
-            place: entry,
-            detail: 0,
-        },
-        Answer::RootFalse(position) => Words {
-            number: 27,
-            place: position,
-            detail: 0,
-        },
-        Answer::SortTable(entry) => Words {
-            number: 28,
-            place: entry,
-            detail: 0,
-        },
-        Answer::NoRows(section) => Words {
-            number: 29,
-            place: section,
-            detail: 0,
-        },
-        Answer::BookFull => Words {
-            number: 30,
-            place: 0,
-            detail: 0,
-        },
-        Answer::ListShort(short) => Words {
-            number: 18,
-            place: short,
-            detail: 0,
-        },
+impl Words {
+    fn new(number: u64, place: u64, detail: u64) -> Words
+        ensures words { result ≡ words number place detail }
+    {
+        Words {
+            number,
+            place,
+            detail,
+        }
     }
 }
 
-pub fn is_accepted(a: Answer) -> bool
-    ensures test { result ≡ is_accepted a }
+impl From<Refusal> for Words {
+    ghost from_gives = { λ refusal r. r ≡ words_of_refusal refusal };
+
+    fn from(refusal: Refusal) -> Words {
+        match refusal {
+            Refusal::Ext(row) => Words::new(1, row, 0),
+            Refusal::Core(row) => Words::new(2, row, 0),
+            Refusal::MapLength(expected, found) => Words::new(3, expected, found),
+            Refusal::MapOutOfRange(row) => Words::new(4, row, 0),
+            Refusal::ReadTable(entry) => Words::new(5, entry, 0),
+            Refusal::CallTable(entry) => Words::new(6, entry, 0),
+            Refusal::VarClass(row) => Words::new(7, row, 0),
+            Refusal::ConstMismatch(row) => Words::new(8, row, 0),
+            Refusal::NodeMismatch(row) => Words::new(9, row, 0),
+            Refusal::ChainMismatch(row) => Words::new(10, row, 0),
+            Refusal::CallMismatch(row) => Words::new(11, row, 0),
+            Refusal::RootMismatch(position) => Words::new(12, position, 0),
+            Refusal::CongruenceMismatch(position) => Words::new(13, position, 0),
+            Refusal::DeadEntry(variable) => Words::new(14, variable, 0),
+            Refusal::RowCount(graph) => Words::new(15, graph, 0),
+            Refusal::BadRow(row, graph) => Words::new(16, row, graph),
+            Refusal::BadBit(position, graph) => Words::new(17, position, graph),
+            Refusal::WorkShort(list) => Words::new(18, list, 0),
+            Refusal::BadRoot(position, graph) => Words::new(19, position, graph),
+            Refusal::BookShape(place) => Words::new(20, place, 0),
+            Refusal::TooWide(row, graph) => Words::new(21, row, graph),
+            Refusal::ValueCount(expected, found) => Words::new(22, expected, found),
+            Refusal::ValueRange(row) => Words::new(23, row, 0),
+            Refusal::NoSection => Words::new(24, 0, 0),
+            Refusal::CellTable(entry) => Words::new(25, entry, 0),
+            Refusal::FunctionCells(entry) => Words::new(26, entry, 0),
+            Refusal::RootFalse(position) => Words::new(27, position, 0),
+            Refusal::SortTable(entry) => Words::new(28, entry, 0),
+            Refusal::NoRows(section) => Words::new(29, section, 0),
+            Refusal::BookFull => Words::new(30, 0, 0),
+            Refusal::ListShort(short) => Words::new(18, short, 0),
+        }
+    }
+}
+
+impl From<Answer> for Words {
+    ghost from_gives = { λ answer r. r ≡ words_of answer };
+
+    fn from(answer: Answer) -> Words {
+        match answer {
+            Ok(()) => Words::new(0, 0, 0),
+            Err(refusal) => Words::from(refusal),
+        }
+    }
+}
+
+// The same as a function, whose promise stands in a clause.
+pub fn words_of(answer: Answer) -> Words
+    ensures words { result ≡ words_of answer }
 {
-    let w = words_of(a);
-    w.number == 0
+    Words::from(answer)
+}
+
+pub fn is_accepted(answer: Answer) -> bool
+    ensures test { result ≡ is_accepted answer }
+{
+    answer.is_ok()
 }

@@ -5,8 +5,8 @@ use mathlib.Core.Bool.{Bool, true, false}
 use mathlib.Core.List.{List}
 use borrow.Author.Tests.{lt-ltb, le-ltb}
 use lib.ListN.{length}
-use Rattle.answers.specs.declared.Answer.{Answer}
-use Rattle.answers.specs.declared.Answer.TheVariants.{Accepted, BadRoot}
+use Rattle.answers.specs.Answer.{Answer}
+use Rattle.answers.specs.Answer.{Accepted, BadRoot}
 use Rattle.wf.specs.Widths.{bad_root}
 use Rattle.lowering.specs.Check.{first_refusal, bit_answers}
 

@@ -2,7 +2,7 @@
 use Prim.Native.Nat.{ℕ, zero, suc}
 use mathlib.Core.Path.{◌≡◌, refl}
 use mathlib.Core.List.{List, [], ◌∷◌, ◌++◌}
-use Rattle.answers.specs.declared.Answer.TheVariants.{Accepted, BookShape, NoSection}
+use Rattle.answers.specs.Answer.{Accepted, BookShape, NoSection}
 use Rattle.lists.specs.First.{first}
 use Rattle.book.specs.Book.{book_answer, section_answer, section_place, section}
 

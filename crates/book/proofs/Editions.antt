@@ -8,8 +8,8 @@ use mathlib.Core.Logic.{⊎_elim}
 use borrow.Author.Tests.{eqb-false, eq-eqb, ne_eqb, lt-ltb, le-ltb}
 use lib.Dec.{eqb, ltb}
 use lib.ListN.{length}
-use Rattle.answers.specs.declared.Answer.{Answer}
-use Rattle.answers.specs.declared.Answer.TheVariants.{Accepted, BookShape, NoSection}
+use Rattle.answers.specs.Answer.{Answer}
+use Rattle.answers.specs.Answer.{Accepted, BookShape, NoSection}
 use Rattle.answers.specs.Answer.{and_then}
 use Rattle.lists.specs.First.{first}
 use Rattle.lists.proofs.First.{first-at, first-same}

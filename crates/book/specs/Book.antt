@@ -1,7 +1,7 @@
 -- Books and their sections (01, 'Section of a book'; 02, 2.9). Assumes nothing.
 use Rattle.std.specs.Prelude.{ℕ, zero, suc, ◌+◌, ◌-◌, ◌%◌, Bool, true, false, not, cond, List, [], eqb, ltb, length, take, drop}
-use Rattle.answers.specs.declared.Answer.{Answer}
-use Rattle.answers.specs.declared.Answer.TheVariants.{Accepted, BookShape, NoSection}
+use Rattle.answers.specs.Answer.{Answer}
+use Rattle.answers.specs.Answer.{Accepted, BookShape, NoSection}
 use Rattle.answers.specs.Answer.{is_accepted, and_then}
 use Rattle.lists.specs.First.{first}
 use Rattle.contents.specs.Contents.{start_of, length_of, is_second, sections, contents, is_bits}

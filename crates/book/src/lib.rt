@@ -6,7 +6,7 @@ ghost use Rattle.contents.specs.Contents.{is_second, sections, contents};
 ghost use Rattle.book.specs.Book.{end_of, due_at, bad_section, first_bad, book_answer, section_answer, body, section_place, section};
 ghost use Rattle.book.specs.Good.{Good};
 
-use answers::Answer;
+use answers::{Answer, Refusal};
 
 // A part of a book: its first byte's place and its length in bytes.
 #[repr(C)]
@@ -86,23 +86,23 @@ pub fn book_answer(book: &[u8]) -> Answer
     ensures answer { result ≡ book_answer book.now }
 {
     if book.len() < 176 {
-        return Answer::BookShape(0);
+        return Err(Refusal::BookShape(0));
     }
     let n = sections(book);
     if book.len() < 16 * n {
-        return Answer::BookShape(0);
+        return Err(Refusal::BookShape(0));
     }
     let bad = first_bad(book, n);
     if bad < n {
-        return Answer::BookShape(bad as u64 + 1);
+        return Err(Refusal::BookShape(bad as u64 + 1));
     }
     if end_of(book, n - 1) == book.len() as u64 {
-        return Answer::Accepted;
+        return Ok(());
     }
     if n == 12 {
-        return Answer::BookShape(14);
+        return Err(Refusal::BookShape(14));
     }
-    Answer::BookShape(12)
+    Err(Refusal::BookShape(12))
 }
 
 // The answer for section 12, which a first edition lacks: 20, by the book's answer, then 24.
@@ -114,9 +114,9 @@ fn twelfth_answer(book: &[u8], shape: Answer) -> Answer
         return shape;
     }
     if is_second(book) {
-        return Answer::Accepted;
+        return Ok(());
     }
-    Answer::NoSection
+    Err(Refusal::NoSection)
 }
 
 // 24 and 20, with its place.
@@ -124,10 +124,10 @@ pub fn section_answer(book: &[u8], number: u64) -> Answer
     ensures answer { result ≡ section_answer book.now number }
 {
     if number == 0 {
-        return Answer::NoSection;
+        return Err(Refusal::NoSection);
     }
     if 12 < number {
-        return Answer::NoSection;
+        return Err(Refusal::NoSection);
     }
     let shape = book_answer(book);
     if number == 12 {

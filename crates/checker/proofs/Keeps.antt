@@ -7,10 +7,10 @@ use lib.Dec.{eqb, ltb}
 use lib.ListN.{length}
 use Rattle.sorts.specs.Sorts.{Edition, sorts_of, sort_answer}
 use Rattle.sorts.proofs.Sorts.{sort-zeroes}
-use Rattle.answers.specs.declared.Answer.{Answer}
-use Rattle.answers.specs.declared.Answer.TheVariants.{Accepted, RowCount, WorkShort, BadRow, BadBit, Ext, Core, MapLength, ReadTable, CallTable}
-use Rattle.answers.specs.declared.Answer.TheVariants.{DeadEntry, RootMismatch, CongruenceMismatch, BadRoot, MapOutOfRange, VarClass, ConstMismatch}
-use Rattle.answers.specs.declared.Answer.TheVariants.{NodeMismatch, ChainMismatch, CallMismatch}
+use Rattle.answers.specs.Answer.{Answer}
+use Rattle.answers.specs.Answer.{Accepted, RowCount, WorkShort, BadRow, BadBit, Ext, Core, MapLength, ReadTable, CallTable}
+use Rattle.answers.specs.Answer.{DeadEntry, RootMismatch, CongruenceMismatch, BadRoot, MapOutOfRange, VarClass, ConstMismatch}
+use Rattle.answers.specs.Answer.{NodeMismatch, ChainMismatch, CallMismatch}
 use Rattle.answers.specs.Answer.{is_accepted, keeps}
 use Rattle.lists.proofs.Choice.{no_way}
 use Rattle.rows.specs.declared.Graph.TheVariants.{Source, Target}

@@ -8,8 +8,8 @@ use lib.Dec.{ltb}
 use lib.ListN.{length, replicate, take, length-replicate}
 use Rattle.sorts.specs.Sorts.{Sorts, plain, sort_answer}
 use Rattle.sorts.specs.Good.{Good}
-use Rattle.answers.specs.declared.Answer.{Answer}
-use Rattle.answers.specs.declared.Answer.TheVariants.{WorkShort}
+use Rattle.answers.specs.Answer.{Answer}
+use Rattle.answers.specs.Answer.{WorkShort}
 use Rattle.answers.specs.Answer.{is_accepted, keeps, and_then}
 use Rattle.answers.specs.Result.{Result, result_of, left, leaves}
 use Rattle.rows.specs.declared.Graph.{Graph}

@@ -3,8 +3,8 @@ use Prim.Native.Nat.{ℕ, ◌/◌, ◌%◌, ◌<◌, ◌≤◌}
 use mathlib.Core.Path.{◌≡◌}
 use borrow.Author.Tests.{eq-eqb, ne_eqb, lt-ltb, le-ltb}
 use lib.ListN.{length}
-use Rattle.answers.specs.declared.Answer.{Answer}
-use Rattle.answers.specs.declared.Answer.TheVariants.{Accepted, RowCount, WorkShort}
+use Rattle.answers.specs.Answer.{Answer}
+use Rattle.answers.specs.Answer.{Accepted, RowCount, WorkShort}
 use Rattle.lowering.specs.Lowering.{SourceGraph, TargetGraph}
 use Rattle.lowering.specs.Check.{first_refusal, count_answers}
 

@@ -10,8 +10,8 @@ use lib.Dec.{ltb}
 use lib.ListN.{length, take, drop}
 use lib.Seq.{take_at}
 use Rattle.sorts.specs.Sorts.{Sorts, Edition, plain, sorts_of, sort_answer}
-use Rattle.answers.specs.declared.Answer.{Answer}
-use Rattle.answers.specs.declared.Answer.TheVariants.{Accepted, BadRow, BadBit, Ext, Core}
+use Rattle.answers.specs.Answer.{Answer}
+use Rattle.answers.specs.Answer.{Accepted, BadRow, BadBit, Ext, Core}
 use Rattle.answers.specs.Answer.{is_accepted, and_then}
 use Rattle.lists.proofs.Build.{build-length}
 use Rattle.lists.proofs.First.{first-le, first-all}

@@ -11,7 +11,7 @@ ghost use Rattle.wf.specs.Widths.{widths};
 ghost use Rattle.lowering.specs.Lowering.{SourceGraph, TargetGraph, source_graph, target_graph};
 ghost use Rattle.lowering.specs.Check.{first_refusal, count_answers, graph_answers, graphs_answer, form_answers};
 
-use answers::Answer;
+use answers::{Answer, Refusal};
 use rows::Graph;
 
 // 15 and 18 of graphs of so many words, with room for some words in each of the four lists.
@@ -27,25 +27,25 @@ pub fn count_answer(
         → result ≡ first_refusal (count_answers S T w0 w1 c e) }
 {
     if source % 5 != 0 {
-        return Answer::RowCount(1);
+        return Err(Refusal::RowCount(1));
     }
     if target % 4 != 0 {
-        return Answer::RowCount(2);
+        return Err(Refusal::RowCount(2));
     }
     if w0 < source / 5 {
-        return Answer::WorkShort(1);
+        return Err(Refusal::WorkShort(1));
     }
     let n = target / 4;
     if w1 < n {
-        return Answer::WorkShort(2);
+        return Err(Refusal::WorkShort(2));
     }
     if c < n {
-        return Answer::WorkShort(3);
+        return Err(Refusal::WorkShort(3));
     }
     if e < n {
-        return Answer::WorkShort(4);
+        return Err(Refusal::WorkShort(4));
     }
-    Answer::Accepted
+    Ok(())
 }
 
 // 16, 17, the sort table's answer, 1 and 2, where each graph's rows before its row `stop` are good and well formed, and that row, if any, is badly
@@ -68,30 +68,30 @@ fn graph_answer(
 {
     let row0 = encoding::bad_row(Graph::Source, source, stop0);
     if row0 < rows::row_count(Graph::Source, source) {
-        return Answer::BadRow(row0 as u64, 1);
+        return Err(Refusal::BadRow(row0 as u64, 1));
     }
     let row1 = encoding::bad_row(Graph::Target, target, stop1);
     if row1 < rows::row_count(Graph::Target, target) {
-        return Answer::BadRow(row1 as u64, 2);
+        return Err(Refusal::BadRow(row1 as u64, 2));
     }
     let bit0 = encoding::bad_bit(ebits);
     if bit0 < ebits.len() {
-        return Answer::BadBit(bit0 as u64, 1);
+        return Err(Refusal::BadBit(bit0 as u64, 1));
     }
     let bit1 = encoding::bad_bit(tbits);
     if bit1 < tbits.len() {
-        return Answer::BadBit(bit1 as u64, 2);
+        return Err(Refusal::BadBit(bit1 as u64, 2));
     }
     if !answers::is_accepted(sort) {
         return sort;
     }
     if stop0 < row0 {
-        return Answer::Ext(stop0 as u64);
+        return Err(Refusal::Ext(stop0 as u64));
     }
     if stop1 < row1 {
-        return Answer::Core(stop1 as u64);
+        return Err(Refusal::Core(stop1 as u64));
     }
-    Answer::Accepted
+    Ok(())
 }
 
 // The widths of both graphs, the source's by the sorts of an edition, or the first refusal by 01's order; a source that is refused leaves the

@@ -1,8 +1,8 @@
 -- The words given for a target's variables (01, 'Operations and what they refuse'): "one word given and one written a row; words at other
 -- rows than Var are ignored". Assumes nothing.
 use Rattle.std.specs.Prelude.{ℕ, ◌^◌, Bool, false, cond, not, List, eqb, ltb, length, get_or}
-use Rattle.answers.specs.declared.Answer.{Answer}
-use Rattle.answers.specs.declared.Answer.TheVariants.{Accepted, TooWide, ValueCount, ValueRange}
+use Rattle.answers.specs.Answer.{Answer}
+use Rattle.answers.specs.Answer.{Accepted, TooWide, ValueCount, ValueRange}
 use Rattle.lists.specs.First.{first}
 use Rattle.rows.specs.declared.Graph.TheVariants.{Target}
 use Rattle.rows.specs.Row.{row_count, row_at}

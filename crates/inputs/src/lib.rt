@@ -6,7 +6,7 @@ ghost use Rattle.rows.specs.declared.Graph.{Graph};
 ghost use Rattle.rows.specs.Row.{row_count};
 ghost use Rattle.inputs.specs.Inputs.{wide_row, bad_word, given_answer};
 
-use answers::Answer;
+use answers::{Answer, Refusal};
 use rows::{Graph, tag};
 
 // The first row wider than 64 bits, or the number of rows.
@@ -56,14 +56,14 @@ pub fn given_answer(g: &[u64], given: &[u64], ws: &[u64]) -> Answer
     let n = ws.len();
     let wide = too_wide(ws);
     if wide < n {
-        return Answer::TooWide(wide as u64, 0);
+        return Err(Refusal::TooWide(wide as u64, 0));
     }
     if given.len() != n {
-        return Answer::ValueCount(n as u64, given.len() as u64);
+        return Err(Refusal::ValueCount(n as u64, given.len() as u64));
     }
     let bad = bad_word(g, given);
     if bad < n {
-        return Answer::ValueRange(bad as u64);
+        return Err(Refusal::ValueRange(bad as u64));
     }
-    Answer::Accepted
+    Ok(())
 }

@@ -1,7 +1,7 @@
 -- Verdicts computed: the empty book of each edition, the empty input. Assumes nothing.
 use mathlib.Core.Path.{◌≡◌, refl}
 use mathlib.Core.List.{[]}
-use Rattle.answers.specs.declared.Answer.TheVariants.{Accepted, BookShape}
+use Rattle.answers.specs.Answer.{Accepted, BookShape}
 use Rattle.lists.specs.First.{first}
 use Rattle.lists.specs.Build.{build}
 use Rattle.lists.specs.Trace.{trace}

@@ -6,8 +6,8 @@ use mathlib.Core.List.{List, [], ◌∷◌, ◌++◌}
 use borrow.Author.Tests.{ltb-false}
 use lib.Dec.{eqb, ltb}
 use lib.ListN.{length, replicate}
-use Rattle.answers.specs.declared.Answer.{Answer}
-use Rattle.answers.specs.declared.Answer.TheVariants.{WorkShort}
+use Rattle.answers.specs.Answer.{Answer}
+use Rattle.answers.specs.Answer.{WorkShort}
 use Rattle.answers.specs.Answer.{is_accepted, keeps, and_then}
 use Rattle.answers.specs.Result.{Result, result_of, left, leaves}
 use Rattle.answers.proofs.AndThen.{accepts-both}

@@ -7,8 +7,8 @@ use native.Mathlib.Omega.{arith}
 use borrow.Author.Tests.{lt-ltb, le-ltb}
 use lib.Dec.{ltb}
 use lib.ListN.{length}
-use Rattle.answers.specs.declared.Answer.{Answer}
-use Rattle.answers.specs.declared.Answer.TheVariants.{WorkShort, BookShape}
+use Rattle.answers.specs.Answer.{Answer}
+use Rattle.answers.specs.Answer.{WorkShort, BookShape}
 use Rattle.answers.specs.Answer.{is_accepted, and_then}
 use Rattle.lowering.specs.Lowering.{Lowering, source_rows, target_rows}
 use Rattle.lowering.specs.Check.{refuse, first_refusal, count_answers, form_answers, match_answers, check_answer_by}

@@ -7,8 +7,8 @@ use mathlib.Core.List.{List}
 use native.Mathlib.Omega.{arith}
 use lib.Dec.{ltb}
 use lib.ListN.{length, replicate, length-replicate}
-use Rattle.answers.specs.declared.Answer.{Answer}
-use Rattle.answers.specs.declared.Answer.TheVariants.{WorkShort, BookShape}
+use Rattle.answers.specs.Answer.{Answer}
+use Rattle.answers.specs.Answer.{WorkShort, BookShape}
 use Rattle.answers.specs.Answer.{is_accepted, and_then, lent}
 use Rattle.answers.proofs.AndThen.{accepts-both}
 use Rattle.lists.proofs.Choice.{no_way}

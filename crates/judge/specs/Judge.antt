@@ -1,7 +1,7 @@
 -- The verdict on a book (01, 'Section of a book'), and the strict one (02, 2.6). Assumes nothing.
 use Rattle.std.specs.Prelude.{ℕ, Bool, true, false, cond, List, [], ◌∷◌, ltb, length}
-use Rattle.answers.specs.declared.Answer.{Answer}
-use Rattle.answers.specs.declared.Answer.TheVariants.{WorkShort, BookShape}
+use Rattle.answers.specs.Answer.{Answer}
+use Rattle.answers.specs.Answer.{WorkShort, BookShape}
 use Rattle.answers.specs.Answer.{and_then}
 use Rattle.answers.specs.Result.{Result, leaves}
 use Rattle.book.specs.Book.{book_answer}

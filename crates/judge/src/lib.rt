@@ -10,7 +10,7 @@ ghost use Rattle.soundness.specs.Choices.{classes_left, SameChoicesBy};
 ghost use Rattle.loaded.specs.Held.{held};
 ghost use Rattle.judge.specs.Judge.{judge_by, verdict_by};
 
-use answers::Answer;
+use answers::{Answer, Refusal};
 
 // A book's verdict: 20, or the check's answer on the lists that it holds; in the five lists the widths of both graphs, the classes, the entry offsets
 // and the book's words.
@@ -57,7 +57,7 @@ pub fn verdict(strict: bool, book: &[u8]) -> Answer
         (classes_left (held book.now)) }
 {
     if 65536 < book.len() {
-        return Answer::BookShape(13);
+        return Err(Refusal::BookShape(13));
     }
     let mut ws0 = [0u64; 2048];
     let mut ws1 = [0u64; 2048];

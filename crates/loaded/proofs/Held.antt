@@ -7,8 +7,8 @@ use borrow.Author.Tests.{lt-ltb, le-ltb}
 use lib.Dec.{ltb}
 use lib.ListN.{length}
 use Rattle.sorts.specs.Sorts.{Edition}
-use Rattle.answers.specs.declared.Answer.{Answer}
-use Rattle.answers.specs.declared.Answer.TheVariants.{Accepted, WorkShort}
+use Rattle.answers.specs.Answer.{Answer}
+use Rattle.answers.specs.Answer.{Accepted, WorkShort}
 use Rattle.answers.specs.Answer.{is_accepted, and_then}
 use Rattle.answers.specs.Result.{Result}
 use Rattle.lowering.specs.Lowering.{Lowering, lowering_in}

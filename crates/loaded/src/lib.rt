@@ -8,11 +8,11 @@ ghost use Rattle.book.specs.Good.{Good};
 ghost use Rattle.bodies.specs.Words.{loaded};
 ghost use Rattle.answers.specs.Answer.{and_then};
 ghost use Rattle.answers.specs.Result.{result_of};
-ghost use Rattle.answers.specs.declared.Answer.TheVariants.{WorkShort};
+ghost use Rattle.answers.specs.Answer.{WorkShort};
 ghost use Rattle.lowering.specs.Check.{check_by, refuse, first_refusal, count_answers};
 ghost use Rattle.loaded.specs.Held.{edition_of, held, book_words};
 
-use answers::Answer;
+use answers::{Answer, Refusal};
 
 // 15 and 18, with room for some words in each of the five lists.
 pub fn room_answer(book: &[u8], w0: usize, w1: usize, c: usize, e: usize, room: usize) -> Answer
@@ -33,9 +33,9 @@ pub fn room_answer(book: &[u8], w0: usize, w1: usize, c: usize, e: usize, room: 
     }
     let n = book::sections(book);
     if room < bodies::offset(book, n) {
-        return Answer::WorkShort(5);
+        return Err(Refusal::WorkShort(5));
     }
-    Answer::Accepted
+    Ok(())
 }
 
 // The table that gives arrays their sorts: section 12 of a second edition, nothing of a first.

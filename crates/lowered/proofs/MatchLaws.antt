@@ -8,8 +8,8 @@ use borrow.Author.Tests.{eq-eqb, ne_eqb, lt-ltb, le-ltb, ltb-false}
 use lib.Dec.{ltb}
 use lib.ListN.{length}
 use Rattle.sorts.specs.Sorts.{plain}
-use Rattle.answers.specs.declared.Answer.{Answer}
-use Rattle.answers.specs.declared.Answer.TheVariants.{MapLength, DeadEntry, ReadTable, CallTable}
+use Rattle.answers.specs.Answer.{Answer}
+use Rattle.answers.specs.Answer.{MapLength, DeadEntry, ReadTable, CallTable}
 use Rattle.answers.specs.Answer.{is_accepted}
 use Rattle.lists.proofs.Build.{build-length}
 use Rattle.lists.proofs.Choice.{no_way}

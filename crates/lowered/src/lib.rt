@@ -12,7 +12,7 @@ ghost use Rattle.lowering.specs.Lowering.{source_graph, target_graph, lowering_i
 ghost use Rattle.lowering.specs.Check.{classes, offsets, first_refusal, match_answers};
 ghost use Rattle.matching.specs.Ready.{Formed};
 
-use answers::Answer;
+use answers::{Answer, Refusal};
 use rows::Graph;
 
 // 3 to 14: whether the target, well formed and with its widths, is the lowering of the source by the sorts of an edition. The two lists hold zeros
@@ -56,7 +56,7 @@ fn matches(
 {
     let n = rows::row_count(Graph::Source, source);
     if map.len() != n {
-        return Answer::MapLength(n as u64, map.len() as u64);
+        return Err(Refusal::MapLength(n as u64, map.len() as u64));
     }
     let t = stages::entries(reads, calls, cargs, second, sorts, target, ws, cls, ent);
     if !answers::is_accepted(t) {
@@ -70,7 +70,7 @@ fn matches(
     }
     let dead = matching::dead_entry(cls);
     if dead < cls.len() as u64 {
-        return Answer::DeadEntry(dead);
+        return Err(Refusal::DeadEntry(dead));
     }
     stages::roots(eroots, map, reads, calls, cargs, target, tbits, ws, troots)
 }

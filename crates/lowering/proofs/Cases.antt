@@ -4,7 +4,7 @@ use mathlib.Core.Path.{◌≡◌, refl}
 use mathlib.Core.Bool.{true}
 use mathlib.Core.List.{List, [], ◌∷◌}
 use Rattle.answers.specs.declared.Words.{Words}
-use Rattle.answers.specs.declared.Answer.TheVariants.{Accepted, ChainMismatch, WorkShort, BadRoot}
+use Rattle.answers.specs.Answer.{Accepted, ChainMismatch, WorkShort, BadRoot}
 use Rattle.answers.specs.Answer.{words, words_of}
 use Rattle.answers.specs.Result.{Result, result_of}
 use Rattle.bv.specs.Bits.{of_bits}

@@ -4,7 +4,7 @@ use mathlib.Core.Path.{◌≡◌, refl}
 use mathlib.Core.Bool.{true, false}
 use mathlib.Core.List.{List, [], ◌∷◌}
 use Rattle.answers.specs.declared.Words.{Words}
-use Rattle.answers.specs.declared.Answer.TheVariants.{SortTable}
+use Rattle.answers.specs.Answer.{SortTable}
 use Rattle.answers.specs.Answer.{words, words_of}
 use Rattle.answers.specs.Result.{result_of}
 use Rattle.lists.specs.Build.{build}

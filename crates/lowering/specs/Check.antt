@@ -2,9 +2,9 @@
 -- answer, and the four lists that are left. Assumes nothing.
 use Rattle.std.specs.Prelude.{ℕ, ◌+◌, Bool, true, false, not, cond, List, [], ◌∷◌, ◌++◌, eqb, ltb, length, replicate}
 use Rattle.sorts.specs.Sorts.{Sorts, Edition, plain, sorts_of, sort_answer}
-use Rattle.answers.specs.declared.Answer.{Answer}
-use Rattle.answers.specs.declared.Answer.TheVariants.{Accepted, Ext, Core, RowCount, BadRow, BadBit, WorkShort, MapLength, ReadTable, CallTable}
-use Rattle.answers.specs.declared.Answer.TheVariants.{DeadEntry, RootMismatch, CongruenceMismatch, BadRoot}
+use Rattle.answers.specs.Answer.{Answer}
+use Rattle.answers.specs.Answer.{Accepted, Ext, Core, RowCount, BadRow, BadBit, WorkShort, MapLength, ReadTable, CallTable}
+use Rattle.answers.specs.Answer.{DeadEntry, RootMismatch, CongruenceMismatch, BadRoot}
 use Rattle.answers.specs.Answer.{is_accepted}
 use Rattle.answers.specs.Result.{Result, leaves}
 use Rattle.rows.specs.declared.Graph.TheVariants.{Source, Target}

@@ -1,7 +1,7 @@
 -- How a source row is matched with its image, and the classes that follow (01, 'How a row is matched'). Assumes nothing.
 use Rattle.std.specs.Prelude.{ℕ, zero, suc, ◌+◌, Bool, false, cond, not, List, [], ◌∷◌, eqb, ltb, leb, length, get_or, set}
-use Rattle.answers.specs.declared.Answer.{Answer}
-use Rattle.answers.specs.declared.Answer.TheVariants.{Accepted, MapOutOfRange, VarClass, ConstMismatch, NodeMismatch, ChainMismatch, CallMismatch}
+use Rattle.answers.specs.Answer.{Answer}
+use Rattle.answers.specs.Answer.{Accepted, MapOutOfRange, VarClass, ConstMismatch, NodeMismatch, ChainMismatch, CallMismatch}
 use Rattle.answers.specs.Answer.{is_accepted}
 use Rattle.lists.specs.First.{first}
 use Rattle.lists.specs.Tests.{all, agree}

@@ -6,7 +6,7 @@ use mathlib.Core.List.{List, []}
 use native.Mathlib.Omega.{arith}
 use lib.ListN.{length, get_or}
 use Rattle.sorts.specs.Sorts.{plain}
-use Rattle.answers.specs.declared.Answer.{Answer}
+use Rattle.answers.specs.Answer.{Answer}
 use Rattle.answers.specs.Answer.{is_accepted}
 use Rattle.images.specs.Bits.{BitsWithin, ConstsWithin}
 use Rattle.images.proofs.Constants.{bits-within}

@@ -5,8 +5,8 @@ use mathlib.Core.Bool.{Bool, true, false}
 use mathlib.Core.List.{List}
 use lib.ListN.{get_or, set}
 use Rattle.sorts.specs.Sorts.{Sorts}
-use Rattle.answers.specs.declared.Answer.{Answer}
-use Rattle.answers.specs.declared.Answer.TheVariants.{VarClass, ConstMismatch, NodeMismatch, ChainMismatch, CallMismatch}
+use Rattle.answers.specs.Answer.{Answer}
+use Rattle.answers.specs.Answer.{VarClass, ConstMismatch, NodeMismatch, ChainMismatch, CallMismatch}
 use Rattle.answers.specs.Answer.{is_accepted}
 use Rattle.rows.specs.declared.Graph.TheVariants.{Source, Target}
 use Rattle.rows.specs.declared.Node.{Node}

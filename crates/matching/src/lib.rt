@@ -14,7 +14,7 @@ ghost use Rattle.rows.specs.Tags.{either};
 ghost use Rattle.rows.specs.Node.{node_of};
 ghost use Rattle.matching.specs.Ready.{Formed};
 
-use answers::Answer;
+use answers::{Answer, Refusal};
 use rows::{Graph, MAX, tag};
 
 // The classes of a read or call variable that nothing has reached.
@@ -79,7 +79,7 @@ fn matched(b: bool, refusal: Answer) -> Answer
     ensures answer { result ≡ matched b refusal }
 {
     if b {
-        return Answer::Accepted;
+        return Ok(());
     }
     refusal
 }
@@ -114,20 +114,20 @@ fn row_corr(
     let e = rows::row(Graph::Source, source, i);
     let t = e[0];
     match t {
-        tag::VAR => matched(var_corr(target, cls, e[1], r), Answer::VarClass(i as u64)),
+        tag::VAR => matched(var_corr(target, cls, e[1], r), Err(Refusal::VarClass(i as u64))),
         tag::CONST => matched(
             const_corr(ebits, target, tbits, e, r),
-            Answer::ConstMismatch(i as u64),
+            Err(Refusal::ConstMismatch(i as u64)),
         ),
         tag::SELECT => matched(
             chains::select_corr(source, ebits, eside, map, reads, target, ent, cls, e, r),
-            Answer::ChainMismatch(i as u64),
+            Err(Refusal::ChainMismatch(i as u64)),
         ),
         tag::CALL => matched(
             applied::call_corr(eside, map, calls, cargs, target, ent, cls, e, r),
-            Answer::CallMismatch(i as u64),
+            Err(Refusal::CallMismatch(i as u64)),
         ),
-        _ => matched(node_corr(map, target, e, r), Answer::NodeMismatch(i as u64)),
+        _ => matched(node_corr(map, target, e, r), Err(Refusal::NodeMismatch(i as u64))),
     }
 }
 
@@ -159,10 +159,10 @@ fn ext_step(
 {
     let r = images::map_at(map, i as u64);
     if r == MAX {
-        return Answer::Accepted;
+        return Ok(());
     }
     if rows::row_count(Graph::Target, target) as u64 <= r {
-        return Answer::MapOutOfRange(i as u64);
+        return Err(Refusal::MapOutOfRange(i as u64));
     }
     row_corr(
         source, ebits, eside, map, reads, calls, cargs, target, tbits, ent, cls, i, r as usize,
@@ -205,5 +205,5 @@ pub fn ext_rows(
         }
         i += 1;
     }
-    Answer::Accepted
+    Ok(())
 }

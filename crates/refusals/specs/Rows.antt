@@ -1,7 +1,7 @@
 -- The refusals for a graph's rows, in 01's order ('Operations and what they refuse'). Assumes nothing.
 use Rattle.std.specs.Prelude.{ℕ, cond, List, ltb, length}
-use Rattle.answers.specs.declared.Answer.{Answer}
-use Rattle.answers.specs.declared.Answer.TheVariants.{Accepted, Ext, Core, BadRow, BadBit}
+use Rattle.answers.specs.Answer.{Answer}
+use Rattle.answers.specs.Answer.{Accepted, Ext, Core, BadRow, BadBit}
 use Rattle.answers.specs.Answer.{and_then}
 use Rattle.rows.specs.declared.Graph.{Graph}
 use Rattle.rows.specs.declared.Graph.TheVariants.{Source, Target}

@@ -7,15 +7,15 @@ ghost use Rattle.encoding.specs.Encoding.{row_bad};
 ghost use Rattle.answers.specs.Answer.{is_accepted};
 ghost use Rattle.refusals.specs.Rows.{ill_formed, rows_answer_by};
 
-use answers::Answer;
+use answers::{Answer, Refusal};
 use rows::Graph;
 
 fn ill_formed(graph: Graph, row: u64) -> Answer
     ensures answer { result ≡ ill_formed graph row }
 {
     match graph {
-        Graph::Source => Answer::Ext(row),
-        Graph::Target => Answer::Core(row),
+        Graph::Source => Err(Refusal::Ext(row)),
+        Graph::Target => Err(Refusal::Core(row)),
     }
 }
 
@@ -30,11 +30,11 @@ pub fn refusal(sort: Answer, graph: Graph, g: &[u64], bits: &[u8], stop: usize) 
     let number = rows::graph_number(graph);
     let row = encoding::bad_row(graph, g, stop);
     if row < rows::row_count(graph, g) {
-        return Answer::BadRow(row as u64, number);
+        return Err(Refusal::BadRow(row as u64, number));
     }
     let bit = encoding::bad_bit(bits);
     if bit < bits.len() {
-        return Answer::BadBit(bit as u64, number);
+        return Err(Refusal::BadBit(bit as u64, number));
     }
     if !answers::is_accepted(sort) {
         return sort;

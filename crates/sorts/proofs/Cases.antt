@@ -2,7 +2,7 @@
 use Prim.Native.Nat.{ℕ}
 use mathlib.Core.Path.{◌≡◌, refl}
 use mathlib.Core.List.{List, [], ◌∷◌}
-use Rattle.answers.specs.declared.Answer.TheVariants.{Accepted, SortTable}
+use Rattle.answers.specs.Answer.{Accepted, SortTable}
 use Rattle.lists.specs.First.{first}
 use Rattle.lists.specs.Tests.{all}
 use Rattle.sorts.specs.Sorts.{Edition, first_edition, second_edition, sorts_of, sort_good, sort_answer}

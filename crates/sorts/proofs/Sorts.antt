@@ -9,7 +9,7 @@ use native.Mathlib.Omega.{arith}
 use borrow.Author.Tests.{eq-eqb, ne_eqb, ltb-true, ltb-false, lt-ltb, le-ltb, leb-true, le-leb, lt-leb, not-false}
 use lib.Dec.{eqb, ltb}
 use lib.ListN.{length, get_or-eq_default}
-use Rattle.answers.specs.declared.Answer.TheVariants.{Accepted, SortTable}
+use Rattle.answers.specs.Answer.{Accepted, SortTable}
 use Rattle.answers.specs.Answer.{is_accepted, keeps}
 use Rattle.lists.specs.Tests.{all}
 use Rattle.lists.proofs.Choice.{no_way, lt-or-ge, last-test}

@@ -1,7 +1,8 @@
 -- The sorts of arrays, an index width and a cell width each, and the table that lists them (01, 'Well-formedness'; 02, 2.9). Assumes nothing.
-use Rattle.std.specs.Prelude.{ℕ, zero, suc, ◌+◌, ◌*◌, ◌/◌, Bool, true, false, not, cond, List, [], ◌∷◌, eqb, ltb, leb, length, get_or}
-use Rattle.answers.specs.declared.Answer.{Answer}
-use Rattle.answers.specs.declared.Answer.TheVariants.{Accepted, SortTable}
+use Rattle.std.specs.Prelude.{ℕ, zero, suc, ◌+◌, ◌*◌, ◌/◌, Bool, true, false, not, cond, List, [], ◌∷◌, eqb, ltb, leb, length, get_or, Option, Some, None}
+use Rattle.std.specs.Borrow.{Bor}
+use Rattle.answers.specs.Answer.{Answer}
+use Rattle.answers.specs.Answer.{Accepted, SortTable}
 use Rattle.lists.specs.First.{first}
 use Rattle.lists.specs.Tests.{all}
 
@@ -35,6 +36,11 @@ pub data Edition : Type 0 where
 abbrev pub edition : Bool → List ℕ → Edition
 edition false table = first_edition
 edition true table = second_edition table
+
+-- the same of a table that is given or not
+abbrev pub edition_given : Option (Bor (List ℕ)) → Edition
+edition_given None = first_edition
+edition_given (Some table) = second_edition table.now
 
 -- "Select needs an index of width 32 and, per pair in the side list, an index row of width 32 and a value row of width 8; its width is 8". A target
 -- has no Select, so that its rows have the same widths under any sorts; these are named for it

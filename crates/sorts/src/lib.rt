@@ -1,16 +1,11 @@
 // The sorts of arrays: 32 and 8 for every array in a first edition, in a second what a table lists, entries of three words.
 #![tactic(auto)]
 
-ghost use Rattle.std.specs.Prelude.{◌≡◌, ℕ, ◌+◌, ◌*◌, ◌<◌, ◌≤◌, length, true};
-ghost use Rattle.sorts.specs.Sorts.{sort_count, array_at, index_at, cell_at, entry_of, edition, sorts_of, rises, sort_good, sort_answer};
+ghost use Rattle.std.specs.Prelude.{◌≡◌, ℕ, ◌+◌, ◌*◌, ◌<◌, ◌≤◌, length};
+ghost use Rattle.sorts.specs.Sorts.{sort_count, array_at, index_at, cell_at, entry_of, edition_given, second_edition, sorts_of, rises, sort_good, sort_answer};
 ghost use Rattle.sorts.specs.Good.{Good};
 
-use answers::Answer;
-
-// The widths of every array in a first edition, of its index and of its cells.
-pub const INDEX_WIDTH: u64 = 32;
-
-pub const CELL_WIDTH: u64 = 8;
+use answers::{Answer, Refusal};
 
 // The widths of an array's index and of its cells.
 #[derive(Clone, Copy)]
@@ -19,51 +14,41 @@ pub struct Sort {
     pub cell: u64,
 }
 
+// Every array's in a first edition.
+pub const PLAIN: Sort = Sort { index: 32, cell: 8 };
+
 // Entry k's array is above that of the entry before.
 fn rises(table: &[u64], k: usize) -> bool
     requires { k * 3 < length table.now }
     ensures test { result ≡ rises table.now k }
 {
-    if k == 0 {
-        return true;
-    }
     let at = k * 3;
-    table[at - 3] < table[at]
+    k == 0 || table[at - 3] < table[at]
 }
 
 // Entry k is whole and in its order, and its widths are above 0.
+#[tactic(auto, unfolding(crate::specs::Sorts::sort_good, lists::specs::Tests::all))]
 fn sort_good(table: &[u64], k: usize) -> bool
     requires { k * 3 < length table.now }
     ensures test { result ≡ sort_good table.now k }
 {
     let at = k * 3;
-    if table.len() - at < 3 {
-        return false;
-    }
-    if !rises(table, k) {
-        return false;
-    }
-    if table[at + 1] == 0 {
-        return false;
-    }
-    0 < table[at + 2]
+    3 <= table.len() - at && rises(table, k) && 0 < table[at + 1] && 0 < table[at + 2]
 }
 
 // 28 of a second edition's table.
-pub fn sort_answer(second: bool, table: &[u64]) -> Answer
-    ensures answer { result ≡ sort_answer (edition second table.now) }
+pub fn sort_answer(sorts: Option<&[u64]>) -> Answer
+    ensures answer { result ≡ sort_answer (edition_given sorts.entry) }
 {
-    if !second {
-        return Answer::Accepted;
-    }
-    let mut k = 0;
-    while k * 3 < table.len() {
+    let Some(table) = sorts else {
+        return Ok(());
+    };
+    for k in 0..table.len().div_ceil(3) {
         if !sort_good(table, k) {
-            return Answer::SortTable(k as u64);
+            return Err(Refusal::SortTable(k as u64));
         }
-        k += 1;
     }
-    Answer::Accepted
+    Ok(())
 }
 
 // The first of n entries whose array is not below this one, or n: a search by halves.
@@ -88,7 +73,7 @@ fn lower_bound(table: &[u64], array: u64, n: usize) -> usize
 
 // What a good table lists for an array, 0 and 0 where it is not listed.
 fn listed(table: &[u64], array: u64) -> Sort
-    requires { Good (edition true table.now) }
+    requires { Good (second_edition table.now) }
     ensures sort { (result.index ≡ index_at table.now (entry_of table.now array))
         × (result.cell ≡ cell_at table.now (entry_of table.now array)) }
 {
@@ -107,17 +92,14 @@ fn listed(table: &[u64], array: u64) -> Sort
     }
 }
 
-// An array's sort.
-pub fn sort_of(second: bool, table: &[u64], array: u64) -> Sort
-    requires { Good (edition second table.now) }
-    ensures sort { (result.index ≡ (sorts_of (edition second table.now)).index array)
-        × (result.cell ≡ (sorts_of (edition second table.now)).cell array) }
+// An array's sort: a given table's, and 32 and 8 for every array where none is given.
+pub fn sort_of(sorts: Option<&[u64]>, array: u64) -> Sort
+    requires { Good (edition_given sorts) }
+    ensures sort { (result.index ≡ (sorts_of (edition_given sorts.entry)).index array)
+        × (result.cell ≡ (sorts_of (edition_given sorts.entry)).cell array) }
 {
-    if second {
-        return listed(table, array);
-    }
-    Sort {
-        index: INDEX_WIDTH,
-        cell: CELL_WIDTH,
+    match sorts {
+        Some(table) => listed(table, array),
+        None => PLAIN,
     }
 }

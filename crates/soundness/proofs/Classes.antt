@@ -9,8 +9,8 @@ use native.Mathlib.Omega.{arith}
 use borrow.Author.Tests.{eqb-true, ltb-true, lt-ltb, ne_eqb}
 use lib.Dec.{eqb, ltb}
 use lib.ListN.{length, get_or}
-use Rattle.answers.specs.declared.Answer.{Answer}
-use Rattle.answers.specs.declared.Answer.TheVariants.{Accepted, MapOutOfRange, VarClass, ChainMismatch, CallMismatch}
+use Rattle.answers.specs.Answer.{Answer}
+use Rattle.answers.specs.Answer.{Accepted, MapOutOfRange, VarClass, ChainMismatch, CallMismatch}
 use Rattle.answers.specs.Answer.{is_accepted}
 use Rattle.lists.specs.Trace.{trace}
 use Rattle.lists.proofs.Choice.{no_way}

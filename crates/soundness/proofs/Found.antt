@@ -7,7 +7,7 @@ use native.Mathlib.Omega.{arith}
 use borrow.Author.Tests.{eqb-true}
 use lib.Dec.{eqb}
 use lib.ListN.{get_or}
-use Rattle.answers.specs.declared.Answer.TheVariants.{ConstMismatch, NodeMismatch, ChainMismatch}
+use Rattle.answers.specs.Answer.{ConstMismatch, NodeMismatch, ChainMismatch}
 use Rattle.answers.specs.Answer.{is_accepted}
 use Rattle.lists.proofs.Choice.{no_way}
 use Rattle.rows.specs.declared.Graph.TheVariants.{Source, Target}

@@ -7,7 +7,7 @@ use mathlib.Core.List.{List, ◌++◌}
 use native.Mathlib.Omega.{arith}
 use borrow.Author.Tests.{eqb-true, ltb-false, not-false}
 use lib.ListN.{length}
-use Rattle.answers.specs.declared.Answer.{Answer}
+use Rattle.answers.specs.Answer.{Answer}
 use Rattle.lowering.specs.Lowering.{Lowering, source_rows}
 use Rattle.lowering.specs.Check.{widths_of_source, widths_of_target, answer_of}
 use Rattle.lowering.specs.Check.{count_answers, forms_of, bit_answers, form_answers, match_answers}

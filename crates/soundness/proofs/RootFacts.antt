@@ -8,8 +8,8 @@ use native.Mathlib.Omega.{arith}
 use borrow.Author.Tests.{eqb-true, eqb-false, ltb-true, eq-eqb, ne_eqb, not-true}
 use lib.Dec.{eqb, ltb}
 use lib.ListN.{length, get_or, get_or-eq_default}
-use Rattle.answers.specs.declared.Answer.{Answer}
-use Rattle.answers.specs.declared.Answer.TheVariants.{Accepted, MapOutOfRange}
+use Rattle.answers.specs.Answer.{Answer}
+use Rattle.answers.specs.Answer.{Accepted, MapOutOfRange}
 use Rattle.answers.specs.Answer.{is_accepted}
 use Rattle.lists.specs.Tests.{all}
 use Rattle.lists.proofs.Choice.{no_way, lt-or-ge}

@@ -10,7 +10,7 @@ use mathlib.Core.List.{List, []}
 use lib.ListN.{length, get_or}
 use Rattle.sorts.specs.Sorts.{plain}
 use Rattle.lists.proofs.Choice.{no_way}
-use Rattle.answers.specs.declared.Answer.{Answer}
+use Rattle.answers.specs.Answer.{Answer}
 use Rattle.answers.specs.Answer.{is_accepted, lent}
 use Rattle.answers.specs.Result.{Result}
 use Rattle.value.specs.Graph.{Assigns}

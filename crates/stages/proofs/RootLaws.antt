@@ -7,8 +7,8 @@ use native.Mathlib.Omega.{arith}
 use borrow.Author.Tests.{eq-eqb, ne_eqb, eqb-true, eqb-false, lt-ltb, le-ltb, not-true, not-false}
 use lib.Dec.{eqb}
 use lib.ListN.{length, get_or}
-use Rattle.answers.specs.declared.Answer.{Answer}
-use Rattle.answers.specs.declared.Answer.TheVariants.{Accepted, RootMismatch, CongruenceMismatch}
+use Rattle.answers.specs.Answer.{Answer}
+use Rattle.answers.specs.Answer.{Accepted, RootMismatch, CongruenceMismatch}
 use Rattle.lists.proofs.First.{first-le}
 use Rattle.lowering.specs.Roots.{Pair, pair, root_at, read_pairs, call_pairs, read_root, call_root, bad_lead, bad_cong}
 use Rattle.lowering.specs.Lowering.{TargetGraph, Entries}

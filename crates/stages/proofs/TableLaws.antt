@@ -5,8 +5,8 @@ use mathlib.Core.Bool.{not}
 use mathlib.Core.List.{List}
 use borrow.Author.Tests.{lt-ltb, le-ltb}
 use Rattle.sorts.specs.Sorts.{Sorts}
-use Rattle.answers.specs.declared.Answer.{Answer}
-use Rattle.answers.specs.declared.Answer.TheVariants.{Accepted, ReadTable, CallTable}
+use Rattle.answers.specs.Answer.{Answer}
+use Rattle.answers.specs.Answer.{Accepted, ReadTable, CallTable}
 use Rattle.lists.proofs.First.{first-all}
 use Rattle.lowering.specs.Tables.{read_count, call_count, read_good, call_good, read_classes, call_classes, bad_read, bad_call}
 use Rattle.lowering.specs.Lowering.{Entries}

@@ -14,7 +14,7 @@ ghost use Rattle.images.specs.Bits.{ConstsWithin};
 ghost use Rattle.pairs.specs.Walk.{ReadsIn};
 ghost use Rattle.congruence.specs.Calls.{CallsIn, EqsEven};
 
-use answers::Answer;
+use answers::{Answer, Refusal};
 
 // 5, by the sorts of an edition, and 6; where both tables pass, each entry has marked its variable's class and offset.
 pub fn entries(
@@ -42,13 +42,13 @@ pub fn entries(
 {
     let r = tables::read_entries(reads, second, sorts, target, ws, cls, ent);
     if r < tables::read_count(reads) as u64 {
-        return Answer::ReadTable(r);
+        return Err(Refusal::ReadTable(r));
     }
     let c = tables::call_entries(calls, cargs, target, ws, cls, ent);
     if c < tables::call_count(calls) as u64 {
-        return Answer::CallTable(c);
+        return Err(Refusal::CallTable(c));
     }
-    Answer::Accepted
+    Ok(())
 }
 
 // 12, 13 and 12 for roots left over, where the tables have passed.
@@ -73,20 +73,20 @@ pub fn roots(
 {
     let lead = leads::ext_roots_corr(eroots, map, troots);
     if lead < eroots.len() {
-        return Answer::RootMismatch(lead as u64);
+        return Err(Refusal::RootMismatch(lead as u64));
     }
     let a = pairs::array_cong(reads, target, tbits, troots, eroots.len());
     if !a.ok {
-        return Answer::CongruenceMismatch(a.next as u64);
+        return Err(Refusal::CongruenceMismatch(a.next as u64));
     }
     let u = congruence::uf_cong(calls, cargs, target, ws, troots, a.next);
     if !u.ok {
-        return Answer::CongruenceMismatch(u.next as u64);
+        return Err(Refusal::CongruenceMismatch(u.next as u64));
     }
     if u.next != troots.len() {
-        return Answer::RootMismatch(0);
+        return Err(Refusal::RootMismatch(0));
     }
-    Answer::Accepted
+    Ok(())
 }
 
 // Zeros in all four lists.

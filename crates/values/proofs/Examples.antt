@@ -2,7 +2,7 @@
 use Prim.Native.Nat.{ℕ}
 use mathlib.Core.Path.{◌≡◌, refl}
 use mathlib.Core.List.{List, [], ◌∷◌}
-use Rattle.answers.specs.declared.Answer.TheVariants.{Accepted, Core, WorkShort, TooWide, ValueCount, ValueRange}
+use Rattle.answers.specs.Answer.{Accepted, Core, WorkShort, TooWide, ValueCount, ValueRange}
 use Rattle.bv.specs.Bv.{rotate_right}
 use Rattle.lists.specs.First.{first}
 use Rattle.lists.specs.Build.{build}

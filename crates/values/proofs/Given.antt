@@ -8,7 +8,7 @@ use borrow.Author.Tests.{eqb-true, eq-eqb, ltb-true, ltb-false, not-false}
 use lib.Dec.{eqb, ltb}
 use lib.ListN.{length, get_or}
 use Rattle.sorts.specs.Sorts.{plain}
-use Rattle.answers.specs.declared.Answer.TheVariants.{Accepted, TooWide, ValueCount, ValueRange}
+use Rattle.answers.specs.Answer.{Accepted, TooWide, ValueCount, ValueRange}
 use Rattle.answers.specs.Answer.{is_accepted}
 use Rattle.evaluate.specs.Ready.{Evaluable}
 use Rattle.lists.proofs.Choice.{no_way}

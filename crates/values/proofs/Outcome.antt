@@ -8,8 +8,8 @@ use lib.Dec.{eqb, ltb}
 use lib.ListN.{length, replicate}
 use Rattle.sorts.specs.Sorts.{plain}
 use Rattle.value.specs.Graph.{numbers_to}
-use Rattle.answers.specs.declared.Answer.{Answer}
-use Rattle.answers.specs.declared.Answer.TheVariants.{Accepted, Core, RowCount, BadRow, BadBit, WorkShort, TooWide, ValueCount, ValueRange}
+use Rattle.answers.specs.Answer.{Answer}
+use Rattle.answers.specs.Answer.{Accepted, Core, RowCount, BadRow, BadBit, WorkShort, TooWide, ValueCount, ValueRange}
 use Rattle.answers.specs.Answer.{lent, is_accepted}
 use Rattle.answers.specs.Result.{result_of}
 use Rattle.evaluate.proofs.Rows.{numbers-length}

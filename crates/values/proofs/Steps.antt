@@ -8,7 +8,7 @@ use lib.Dec.{ltb}
 use lib.ListN.{length, get_or, replicate, take, drop}
 use Rattle.sorts.specs.Sorts.{plain}
 use Rattle.value.specs.Graph.{numbers_to}
-use Rattle.answers.specs.declared.Answer.{Answer}
+use Rattle.answers.specs.Answer.{Answer}
 use Rattle.answers.specs.Answer.{lent, is_accepted}
 use Rattle.answers.specs.Result.{Result, result_of}
 use Rattle.evaluate.proofs.Rows.{numbers-front}

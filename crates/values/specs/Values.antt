@@ -1,8 +1,8 @@
 -- The operation Values of a target graph (01, 'Operations and what they refuse'). Assumes nothing.
 use Rattle.std.specs.Prelude.{ℕ, cond, List, [], ◌∷◌, ltb, length}
 use Rattle.sorts.specs.Sorts.{plain}
-use Rattle.answers.specs.declared.Answer.{Answer}
-use Rattle.answers.specs.declared.Answer.TheVariants.{RowCount, WorkShort}
+use Rattle.answers.specs.Answer.{Answer}
+use Rattle.answers.specs.Answer.{RowCount, WorkShort}
 use Rattle.answers.specs.Answer.{and_then}
 use Rattle.answers.specs.Result.{Result, leaves}
 use Rattle.rows.specs.declared.Graph.TheVariants.{Target}

@@ -5,7 +5,7 @@ ghost use Rattle.std.specs.Prelude.{◌≡◌, [], ◌∷◌};
 ghost use Rattle.answers.specs.Result.{result_of};
 ghost use Rattle.values.specs.Values.{values};
 
-use answers::Answer;
+use answers::{Answer, Refusal};
 use rows::Graph;
 
 // The numbers of a target's rows under the words given for its variables, with its widths, or the first refusal by 01's order.
@@ -15,14 +15,14 @@ pub fn values(target: &[u64], bits: &[u8], given: &[u64], ws: &mut [u64], vs: &m
         ws.old vs.old }
 {
     if rows::is_ragged(Graph::Target, target) {
-        return Answer::RowCount(2);
+        return Err(Refusal::RowCount(2));
     }
     let n = rows::row_count(Graph::Target, target);
     if ws.len() < n {
-        return Answer::WorkShort(1);
+        return Err(Refusal::WorkShort(1));
     }
     if vs.len() < n {
-        return Answer::WorkShort(2);
+        return Err(Refusal::WorkShort(2));
     }
     let a = widths::target_widths(target, bits, ws);
     if !answers::is_accepted(a) {
@@ -37,5 +37,5 @@ pub fn values(target: &[u64], bits: &[u8], given: &[u64], ws: &mut [u64], vs: &m
     }
     evaluate::evaluate(target, bits, given, &ws[..n], vs);
     lists::clear_from(vs, n);
-    Answer::Accepted
+    Ok(())
 }

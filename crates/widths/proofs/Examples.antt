@@ -5,7 +5,7 @@ use mathlib.Core.List.{List, [], ◌∷◌, ◌++◌}
 use lib.ListN.{replicate}
 use Rattle.lists.specs.Tests.{all}
 use Rattle.sorts.specs.Sorts.{plain, sort_good}
-use Rattle.answers.specs.declared.Answer.TheVariants.{Accepted, Ext, Core, RowCount, BadRow, BadBit, WorkShort, BadRoot, SortTable}
+use Rattle.answers.specs.Answer.{Accepted, Ext, Core, RowCount, BadRow, BadBit, WorkShort, BadRoot, SortTable}
 use Rattle.lists.specs.First.{first}
 use Rattle.lists.specs.Build.{build}
 use Rattle.answers.specs.Result.{result_of}

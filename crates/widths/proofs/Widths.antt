@@ -10,8 +10,8 @@ use lib.Dec.{ltb}
 use lib.ListN.{length, replicate, take, drop}
 use Rattle.sorts.specs.Sorts.{Sorts, Edition, sorts_of, sort_answer}
 use Rattle.sorts.proofs.Sorts.{sort-zeroes, sort-accepted}
-use Rattle.answers.specs.declared.Answer.{Answer}
-use Rattle.answers.specs.declared.Answer.TheVariants.{Accepted, RowCount, BadRow, BadBit, WorkShort}
+use Rattle.answers.specs.Answer.{Answer}
+use Rattle.answers.specs.Answer.{Accepted, RowCount, BadRow, BadBit, WorkShort}
 use Rattle.answers.specs.Answer.{is_accepted, and_then, keeps, lent}
 use Rattle.answers.proofs.AndThen.{accepts-both}
 use Rattle.answers.specs.Result.{Result, result_of, leaves}

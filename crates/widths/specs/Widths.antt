@@ -1,8 +1,8 @@
 -- The operations Source widths, Target widths and Roots (01, 'Operations and what they refuse'). Assumes nothing.
 use Rattle.std.specs.Prelude.{ℕ, cond, List, [], ◌∷◌, ltb, length}
 use Rattle.sorts.specs.Sorts.{Edition, first_edition, second_edition, sorts_of, sort_answer}
-use Rattle.answers.specs.declared.Answer.{Answer}
-use Rattle.answers.specs.declared.Answer.TheVariants.{Accepted, RowCount, WorkShort, BadRoot}
+use Rattle.answers.specs.Answer.{Answer}
+use Rattle.answers.specs.Answer.{Accepted, RowCount, WorkShort, BadRoot}
 use Rattle.answers.specs.Result.{Result, leaves}
 use Rattle.rows.specs.declared.Graph.{Graph}
 use Rattle.rows.specs.declared.Graph.TheVariants.{Source, Target}

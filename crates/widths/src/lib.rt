@@ -11,7 +11,7 @@ ghost use Rattle.wf.specs.Widths.{ill_row, widths};
 ghost use Rattle.refusals.specs.Rows.{rows_answer};
 ghost use Rattle.widths.specs.Widths.{graph_widths, target_widths, roots_answer};
 
-use answers::Answer;
+use answers::{Answer, Refusal};
 use rows::Graph;
 
 // The widths of a graph's rows in a list with room for them, where an edition's table is good: 16, 17, then 1 or 2.
@@ -38,15 +38,15 @@ fn row_widths(
     let stop = wf::graph_wf(graph, g, bits.len() as u64, side, second, sorts, ws);
     if stop < n {
         lists::clear(ws);
-        return refusals::refusal(Answer::Accepted, graph, g, bits, stop);
+        return refusals::refusal(Ok(()), graph, g, bits, stop);
     }
     let bit = encoding::bad_bit(bits);
     if bit < bits.len() {
         lists::clear(ws);
-        return Answer::BadBit(bit as u64, rows::graph_number(graph));
+        return Err(Refusal::BadBit(bit as u64, rows::graph_number(graph)));
     }
     lists::clear_from(ws, n);
-    Answer::Accepted
+    Ok(())
 }
 
 // The widths of a graph's rows, or the first refusal by 01's order, with 28 where the edition is the second.
@@ -63,10 +63,10 @@ fn graph_widths(
         bits.now side.now ws.old }
 {
     if rows::is_ragged(graph, g) {
-        return Answer::RowCount(rows::graph_number(graph));
+        return Err(Refusal::RowCount(rows::graph_number(graph)));
     }
     if ws.len() < rows::row_count(graph, g) {
-        return Answer::WorkShort(rows::graph_number(graph));
+        return Err(Refusal::WorkShort(rows::graph_number(graph)));
     }
     let sort = sorts::sort_answer(second, sorts);
     if !answers::is_accepted(sort) {
@@ -103,8 +103,8 @@ pub fn roots(ws: &[u64], roots: &[u64]) -> Answer
 {
     let position = wf::roots_wf(ws, roots);
     if position < roots.len() {
-        Answer::BadRoot(position as u64, 0)
+        Err(Refusal::BadRoot(position as u64, 0))
     } else {
-        Answer::Accepted
+        Ok(())
     }
 }

@@ -6,7 +6,7 @@ use mathlib.Core.Bool.{true, false}
 use mathlib.Core.List.{[]}
 use native.Mathlib.Omega.{arith}
 use lib.ListN.{length}
-use Rattle.answers.specs.declared.Answer.{Answer}
+use Rattle.answers.specs.Answer.{Answer}
 use Rattle.answers.specs.Answer.{is_accepted}
 use Rattle.lists.proofs.Choice.{no_way}
 use Rattle.sorts.specs.Sorts.{Edition, edition, plain, sorts_of, sort_answer}

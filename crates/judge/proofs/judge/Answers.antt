@@ -4,7 +4,7 @@ use Rattle.contents.specs.Contents.{sections}
 use Rattle.bodies.proofs.Words.{filled-rest}
 use mathlib.Core.Path.{◌≡◌, sym, ap, ◌∙◌}
 use mathlib.Core.Bool.{Bool, true}
-use Rattle.answers.specs.declared.Answer.{Answer}
+use Rattle.answers.specs.Answer.{Answer}
 use Rattle.answers.specs.Answer.{is_accepted}
 use Rattle.answers.specs.Result.{Result}
 use Rattle.lowering.specs.Check.{check_answer_by}

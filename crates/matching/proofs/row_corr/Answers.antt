@@ -1,7 +1,7 @@
 -- By the tag word, which says the row's kind: the kind's function answers as the definition does at that kind. Assumes nothing.
 use mathlib.Core.Path.{refl, sym}
 use native.Mathlib.Omega.{arith}
-use Rattle.answers.specs.declared.Answer.TheVariants.{VarClass, ConstMismatch, NodeMismatch, ChainMismatch, CallMismatch}
+use Rattle.answers.specs.Answer.{VarClass, ConstMismatch, NodeMismatch, ChainMismatch, CallMismatch}
 use Rattle.lists.proofs.Choice.{cond_same}
 use Rattle.lowering.specs.Lowering.{Binding, binding}
 use Rattle.lowering.specs.Matching.{Noted, noted}

@@ -1,6 +1,6 @@
 -- The line of the words of the verdict; where it is `accepted`, the verdict is. Assumes nothing.
 use mathlib.Core.Path.{◌≡◌, ap, ◌∙◌}
-use Rattle.answers.specs.declared.Answer.{Answer}
+use Rattle.answers.specs.Answer.{Answer}
 use Rattle.answers.specs.Answer.{words_of}
 use Rattle.judge.specs.Judge.{verdict_by}
 use Rattle.line.specs.Line.{line_of}

@@ -2,7 +2,7 @@
 use Prim.Native.Nat.{◌≤◌}
 use mathlib.Core.Path.{sym, ap, ◌∙◌}
 use Rattle.sorts.specs.Sorts.{edition, sorts_of}
-use Rattle.answers.specs.declared.Answer.TheVariants.{ReadTable, CallTable}
+use Rattle.answers.specs.Answer.{ReadTable, CallTable}
 use Rattle.lists.proofs.Choice.{no_way}
 use Rattle.lowering.specs.Tables.{read_count, bad_read}
 use Rattle.lowering.specs.Lowering.{entries}

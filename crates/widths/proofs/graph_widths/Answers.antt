@@ -1,7 +1,7 @@
 -- Each return is one law of proofs/Widths. Assumes nothing.
 use mathlib.Core.Path.{sym, ap, ◌∙◌}
 use native.Mathlib.Omega.{arith}
-use Rattle.answers.specs.declared.Answer.{Answer}
+use Rattle.answers.specs.Answer.{Answer}
 use Rattle.lists.proofs.Choice.{no_way}
 use Rattle.sorts.specs.Sorts.{edition}
 use Rattle.refusals.specs.Rows.{rows_answer_by}
