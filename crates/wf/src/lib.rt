@@ -4,7 +4,7 @@
 ghost use Rattle.std.specs.Prelude.{◌≡◌, true, false, List, ◌++◌, ℕ, ◌<◌, ◌≤◌, length, get_or, drop};
 ghost use Rattle.rows.specs.Row.{row_count, row_at};
 ghost use Rattle.rows.specs.Tags.{t_select};
-ghost use Rattle.sorts.specs.Sorts.{Sorts, edition, sorts_of};
+ghost use Rattle.sorts.specs.Sorts.{Sorts, edition_given, second_edition, sorts_of};
 ghost use Rattle.sorts.specs.Good.{Good};
 ghost use Rattle.rules.specs.Table.{table};
 ghost use Rattle.wf.specs.Widths.{widths_to, bad_root};
@@ -12,7 +12,7 @@ ghost use Rattle.wf.specs.Pass.{row_stops, stop_row, OneSort, Reached};
 
 use rows::{Graph, tag};
 use rules::lines::Line;
-use sorts::{CELL_WIDTH, INDEX_WIDTH, Sort};
+use sorts::{PLAIN, Sort};
 
 // No width passes it.
 const CEILING: u64 = 4096;
@@ -97,14 +97,14 @@ fn parts_wf(
     g: &[u64],
     nbits: u64,
     side: &[u64],
-    sorts: &[u64],
+    table: &[u64],
     ws: &mut [u64],
 ) -> usize
-    requires good { Good (edition true sorts.now) }
+    requires good { Good (second_edition table.now) }
     requires g_in_bounds { row_count graph g.now ≤ length ws.old }
-    ensures row { result ≡ stop_row (sorts_of (edition true sorts.now)) graph nbits side.now g.now }
+    ensures row { result ≡ stop_row (sorts_of (second_edition table.now)) graph nbits side.now g.now }
     ensures list { ws.new
-        ≡ widths_to (sorts_of (edition true sorts.now)) graph nbits side.now g.now result
+        ≡ widths_to (sorts_of (second_edition table.now)) graph nbits side.now g.now result
         ++ drop result ws.old }
 {
     let n = rows::row_count(graph, g);
@@ -113,7 +113,7 @@ fn parts_wf(
     while i < n {
         let r = rows::row(graph, g, i);
         let to = part_end(graph, g, i, r[1]);
-        let sort = sorts::sort_of(true, sorts, r[1]);
+        let sort = sorts::sort_of(Some(table), r[1]);
         let k = rows_wf(lines, graph, g, nbits, side, sort, i, to, ws);
         if k < to {
             return k;
@@ -130,36 +130,22 @@ pub fn graph_wf(
     g: &[u64],
     nbits: u64,
     side: &[u64],
-    second: bool,
-    sorts: &[u64],
+    sorts: Option<&[u64]>,
     ws: &mut [u64],
 ) -> usize
-    requires good { Good (edition second sorts.now) }
+    requires good { Good (edition_given sorts) }
     requires g_in_bounds { row_count graph g.now ≤ length ws.old }
-    ensures row { result ≡ stop_row (sorts_of (edition second sorts.now)) graph nbits side.now g.now }
+    ensures row { result ≡ stop_row (sorts_of (edition_given sorts.entry)) graph nbits side.now g.now }
     ensures list { ws.new
-        ≡ widths_to (sorts_of (edition second sorts.now)) graph nbits side.now g.now result
+        ≡ widths_to (sorts_of (edition_given sorts.entry)) graph nbits side.now g.now result
         ++ drop result ws.old }
 {
-    if second {
-        return parts_wf(graph, g, nbits, side, sorts, ws);
+    if let Some(table) = sorts {
+        return parts_wf(graph, g, nbits, side, table, ws);
     }
+    let lines = rules::lines::all_lines();
     let n = rows::row_count(graph, g);
-    let plain = Sort {
-        index: INDEX_WIDTH,
-        cell: CELL_WIDTH,
-    };
-    rows_wf(
-        rules::lines::all_lines(),
-        graph,
-        g,
-        nbits,
-        side,
-        plain,
-        0,
-        n,
-        ws,
-    )
+    rows_wf(lines, graph, g, nbits, side, PLAIN, 0, n, ws)
 }
 
 // The position of the first root that names no row of one bit, or the number of roots.

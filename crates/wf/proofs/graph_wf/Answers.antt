@@ -5,15 +5,6 @@ use Rattle.sorts.specs.Sorts.{plain}
 use Rattle.wf.proofs.Parts.{at-start, at-stop}
 use Rattle.wf.proofs.graph_wf.Goals as goal
 
-pub parts_wf-requires : goal.parts_wf-requires
-parts_wf-requires c = record {
-  good = let p = c.requires in rw c.if-second.true at p.good;
-  g_in_bounds = let p = c.requires in p.g_in_bounds;
-}
-
-pub returns-then-second : goal.returns-then-second
-returns-then-second c = rw c.if-second.true c.parts_wf.ensures
-
 pub returns : goal.returns
 returns c =
     let s = c.args in
@@ -24,4 +15,4 @@ returns c =
     let p =
     at-stop plain s.graph s.nbits s.side.now s.g.now s.ws.now c.rows_wf.new.ws c.rows_wf.result reached (omega (arith, e, told.place.1))
     (λ h. stops (omega (arith, e, h))) in
-    record { row = rw c.if-second.false p.0; list = rw c.if-second.false p.1 }
+    record { row = rw c.in_default.is p.0; list = rw c.in_default.is p.1 }

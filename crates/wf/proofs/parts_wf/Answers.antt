@@ -4,7 +4,7 @@ use mathlib.Core.Path.{◌≡◌, ap}
 use mathlib.Core.Bool.{true}
 use native.Mathlib.Omega.{arith}
 use lib.ListN.{get_or}
-use Rattle.sorts.specs.Sorts.{edition, sorts_of}
+use Rattle.sorts.specs.Sorts.{second_edition, sorts_of}
 use Rattle.wf.proofs.Parts.{one-array, at-start, at-stop}
 use Rattle.wf.specs.Pass.{row_stops, Reached}
 use Rattle.wf.proofs.parts_wf.Goals as goal
@@ -30,13 +30,13 @@ rows_wf-k-requires c = record {
 -- the pass is where the part's is, and stops if that does
 part : (c : After-rows_wf-k)
     → let s = c.args in
-    let σ = sorts_of (edition true s.sorts.now) in
+    let σ = sorts_of (second_edition s.table.now) in
     let k = c.rows_wf-k.result in
     Reached σ s.graph s.nbits s.side.now s.g.now s.ws.now c.rows_wf-k.new.ws k
     × (k < c.part_end-to.result → row_stops σ s.graph s.nbits s.side.now s.g.now k ≡ true)
 part c =
     let s = c.args in
-    let σ = sorts_of (edition true s.sorts.now) in
+    let σ = sorts_of (second_edition s.table.now) in
     let one = one-array σ s.graph s.g.now _ _ _ _ _ c.part_end-to.ensures.reads c.sort_of-sort.ensures.sort in
     c.rows_wf-k.ensures.part σ s.ws.now one c.loop-i.invariant.1
 
@@ -46,7 +46,7 @@ returns-then-k-to c =
     let (reached, stops) = part (goal.at.returns-then-k-to c).After-rows_wf-k in
     let h = c.part_end-to.ensures.place.1 in
     let p =
-    at-stop (sorts_of (edition true s.sorts.now)) s.graph s.nbits s.side.now s.g.now s.ws.now c.rows_wf-k.new.ws c.rows_wf-k.result reached
+    at-stop (sorts_of (second_edition s.table.now)) s.graph s.nbits s.side.now s.g.now s.ws.now c.rows_wf-k.new.ws c.rows_wf-k.result reached
     (omega (arith, h)) (λ k. stops c.if-k-to.true) in
     record { row = p.0; list = p.1 }
 
@@ -66,6 +66,6 @@ returns c =
     let l = c.loop-i in
     let e = c.row_count-n.ensures.count in
     let p =
-    at-stop (sorts_of (edition true s.sorts.now)) s.graph s.nbits s.side.now s.g.now s.ws.now l.ws l.i l.invariant.1 l.invariant.0
+    at-stop (sorts_of (second_edition s.table.now)) s.graph s.nbits s.side.now s.g.now s.ws.now l.ws l.i l.invariant.1 l.invariant.0
     (λ h. absurd (omega (arith, e, c.loop-i-test.false, h))) in
     record { row = p.0; list = p.1 }
