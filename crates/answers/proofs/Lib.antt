@@ -1,1 +1,2 @@
 pub mod AndThen
+pub mod Numbers

@@ -1,5 +1,5 @@
 -- Answers, and what each leaves in a lent list (01, 'Operations and what they refuse'). Assumes nothing.
-use Rattle.std.specs.Prelude.{ℕ, ◌-◌, Bool, false, cond, List, ◌++◌, eqb, length, replicate, Result, Ok, Err}
+use Rattle.std.specs.Prelude.{ℕ, ◌-◌, Bool, false, cond, List, ◌++◌, length, replicate, Result, Ok, Err, is_ok}
 use Rattle.answers.specs.declared.Refusal.{Refusal}
 use Rattle.answers.specs.declared.Refusal.TheVariants as why
 use Rattle.answers.specs.declared.Words.{Words}
@@ -112,7 +112,7 @@ words_of (Ok _) = words 0 0 0
 words_of (Err refusal) = words_of_refusal refusal
 
 abbrev pub is_accepted : Answer → Bool
-is_accepted a = eqb (words_of a).number 0
+is_accepted a = is_ok a
 
 -- what is looked for after what an answer looked for: the first refusal counts
 abbrev pub and_then : Answer → Answer → Answer

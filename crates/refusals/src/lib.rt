@@ -36,8 +36,6 @@ pub fn refusal(sort: Answer, graph: Graph, g: &[u64], bits: &[u8], stop: usize) 
     if bit < bits.len() {
         return Err(Refusal::BadBit(bit as u64, number));
     }
-    if !answers::is_accepted(sort) {
-        return sort;
-    }
+    sort?;
     ill_formed(graph, stop as u64)
 }

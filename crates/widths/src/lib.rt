@@ -3,7 +3,7 @@
 
 ghost use Rattle.std.specs.Prelude.{◌≡◌, [], ◌∷◌, ◌≤◌, length};
 ghost use Rattle.answers.specs.Result.{result_of, leaves};
-ghost use Rattle.sorts.specs.Sorts.{edition, sorts_of};
+ghost use Rattle.sorts.specs.Sorts.{edition_given, sorts_of};
 ghost use Rattle.sorts.specs.Good.{Good};
 ghost use Rattle.rows.specs.declared.Graph.{Graph};
 ghost use Rattle.rows.specs.Row.{row_count};
@@ -20,22 +20,21 @@ fn row_widths(
     g: &[u64],
     bits: &[u8],
     side: &[u64],
-    second: bool,
-    sorts: &[u64],
+    sorts: Option<&[u64]>,
     ws: &mut [u64],
 ) -> Answer
-    requires good { Good (edition second sorts.now) }
+    requires good { Good (edition_given sorts) }
     requires g_in_bounds { row_count graph g.now ≤ length ws.old }
     ensures outcome { result_of result (ws.new ∷ []) ≡ leaves (rows_answer graph g.now bits.now
-        (ill_row (sorts_of (edition second sorts.now)) graph (length bits.now) side.now g.now))
+        (ill_row (sorts_of (edition_given sorts.entry)) graph (length bits.now) side.now g.now))
         ((
           ws.old,
-          widths (sorts_of (edition second sorts.now)) graph (length bits.now) side.now
+          widths (sorts_of (edition_given sorts.entry)) graph (length bits.now) side.now
               g.now,
         ) ∷ []) }
 {
     let n = rows::row_count(graph, g);
-    let stop = wf::graph_wf(graph, g, bits.len() as u64, side, second, sorts, ws);
+    let stop = wf::graph_wf(graph, g, bits.len() as u64, side, sorts, ws);
     if stop < n {
         lists::clear(ws);
         return refusals::refusal(Ok(()), graph, g, bits, stop);
@@ -55,11 +54,10 @@ fn graph_widths(
     g: &[u64],
     bits: &[u8],
     side: &[u64],
-    second: bool,
-    sorts: &[u64],
+    sorts: Option<&[u64]>,
     ws: &mut [u64],
 ) -> Answer
-    ensures outcome { result_of result (ws.new ∷ []) ≡ graph_widths (edition second sorts.now) graph g.now
+    ensures outcome { result_of result (ws.new ∷ []) ≡ graph_widths (edition_given sorts.entry) graph g.now
         bits.now side.now ws.old }
 {
     if rows::is_ragged(graph, g) {
@@ -68,12 +66,12 @@ fn graph_widths(
     if ws.len() < rows::row_count(graph, g) {
         return Err(Refusal::WorkShort(rows::graph_number(graph)));
     }
-    let sort = sorts::sort_answer(second, sorts);
-    if !answers::is_accepted(sort) {
+    let sort = sorts::sort_answer(sorts);
+    if sort.is_err() {
         lists::clear(ws);
         return refusals::refusal(sort, graph, g, bits, 0);
     }
-    row_widths(graph, g, bits, side, second, sorts, ws)
+    row_widths(graph, g, bits, side, sorts, ws)
 }
 
 // Of a source whose arrays have the sorts of an edition, a second one's from its table.
@@ -81,21 +79,20 @@ pub fn source_widths(
     source: &[u64],
     bits: &[u8],
     side: &[u64],
-    second: bool,
-    sorts: &[u64],
+    sorts: Option<&[u64]>,
     ws: &mut [u64],
 ) -> Answer
-    ensures outcome { result_of result (ws.new ∷ []) ≡ graph_widths (edition second sorts.now) Graph.Source
+    ensures outcome { result_of result (ws.new ∷ []) ≡ graph_widths (edition_given sorts.entry) Graph.Source
         source.now bits.now side.now ws.old }
 {
-    graph_widths(Graph::Source, source, bits, side, second, sorts, ws)
+    graph_widths(Graph::Source, source, bits, side, sorts, ws)
 }
 
 pub fn target_widths(target: &[u64], bits: &[u8], ws: &mut [u64]) -> Answer
     ensures outcome { result_of result (ws.new ∷ []) ≡ target_widths target.now bits.now ws.old }
 {
     let none = &target[0..0];
-    graph_widths(Graph::Target, target, bits, none, false, none, ws)
+    graph_widths(Graph::Target, target, bits, none, None, ws)
 }
 
 pub fn roots(ws: &[u64], roots: &[u64]) -> Answer

@@ -28,25 +28,3 @@ returns-then-bit-bits c = record {
       );
 }
 
-pub returns-then-not-is_accepted : goal.returns-then-not-is_accepted
-returns-then-not-is_accepted c = record {
-  answer =
-      rw (
-        le-ltb _ _ (rw (c.bad_row-row.ensures.row, c.row_count.ensures.count) at c.if-row-row_count.false),
-        le-ltb _ _ (rw c.bad_bit-bit.ensures.position at c.if-bit-bits.false),
-        sym c.is_accepted.ensures.test ∙ c.if-not-is_accepted.true,
-      );
-}
-
-pub returns : goal.returns
-returns c = record {
-  answer =
-      let yes = sym c.is_accepted.ensures.test ∙ c.if-not-is_accepted.false in
-      rw (
-        le-ltb _ _ (rw (c.bad_row-row.ensures.row, c.row_count.ensures.count) at c.if-row-row_count.false),
-        le-ltb _ _ (rw c.bad_bit-bit.ensures.position at c.if-bit-bits.false),
-        yes,
-        lt-ltb _ _ (c.requires.stop_bound_2 yes),
-      )
-      c.ill_formed.ensures.answer;
-}

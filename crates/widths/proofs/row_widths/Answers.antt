@@ -7,7 +7,7 @@ use lib.ListN.{length}
 use Rattle.answers.specs.Answer.{Accepted}
 use Rattle.answers.specs.Result.{result_of}
 use Rattle.lists.proofs.First.{first-le}
-use Rattle.sorts.specs.Sorts.{Sorts, edition, sorts_of}
+use Rattle.sorts.specs.Sorts.{Sorts, edition_given, sorts_of}
 use Rattle.rows.specs.Row.{row_count}
 use Rattle.wf.specs.Pass.{row_stops}
 use Rattle.wf.proofs.Stop.{stop-good}
@@ -21,7 +21,7 @@ refusal-requires c =
     record {
       stop_bound = omega (arith, before);
       by_index =
-          λ j h. stop-good (sorts_of (edition s.second s.sorts.now)) s.graph (length s.bits.now) s.side.now s.g.now j
+          λ j h. stop-good (sorts_of (edition_given s.sorts)) s.graph (length s.bits.now) s.side.now s.g.now j
           (rw c.graph_wf-stop.ensures.row at h);
       stop_bound_2 = λ e. before;
     }
@@ -32,7 +32,7 @@ returns-then-stop-n c = record {
       let s = c.args in
       let w = c.graph_wf-stop in
       rw (c.refusal.ensures.answer, w.ensures.row, c.clear.ensures.zeros, w.auto.ws)
-      (sym (widths-stop (sorts_of (edition s.second s.sorts.now)) s.graph s.g.now s.bits.now s.side.now s.ws.now
+      (sym (widths-stop (sorts_of (edition_given s.sorts)) s.graph s.g.now s.bits.now s.side.now s.ws.now
       (rw (w.ensures.row, c.row_count-n.ensures.count) at c.if-stop-n.true)));
 }
 
@@ -42,7 +42,7 @@ returns-then-bit-bits c = record {
       let s = c.args in
       let w = c.graph_wf-stop in
       rw (c.graph_number.ensures.number, c.bad_bit-bit.ensures.position, c.clear-then-bit-bits.ensures.zeros, w.auto.ws)
-      (sym (widths-17 (sorts_of (edition s.second s.sorts.now)) s.graph s.g.now s.bits.now s.side.now s.ws.now
+      (sym (widths-17 (sorts_of (edition_given s.sorts)) s.graph s.g.now s.bits.now s.side.now s.ws.now
       (rw (w.ensures.row, c.row_count-n.ensures.count) at c.if-stop-n.false)
       (rw c.bad_bit-bit.ensures.position at c.if-bit-bits.true)));
 }
@@ -51,7 +51,7 @@ pub returns : goal.returns
 returns c = record {
   outcome =
       let s = c.args in
-      let σ : Sorts = sorts_of (edition s.second s.sorts.now) in
+      let σ : Sorts = sorts_of (edition_given s.sorts) in
       let count = c.row_count-n.ensures.count in
       let w = c.graph_wf-stop in
       let most = first-le (row_stops σ s.graph (length s.bits.now) s.side.now s.g.now) (row_count s.graph s.g.now) in
