@@ -25,12 +25,12 @@ pub fn values(target: &[u64], bits: &[u8], given: &[u64], ws: &mut [u64], vs: &m
         return Err(Refusal::WorkShort(2));
     }
     let a = widths::target_widths(target, bits, ws);
-    if !answers::is_accepted(a) {
+    if a.is_err() {
         lists::clear(vs);
         return a;
     }
     let b = inputs::given_answer(target, given, &ws[..n]);
-    if !answers::is_accepted(b) {
+    if b.is_err() {
         lists::clear(ws);
         lists::clear(vs);
         return b;

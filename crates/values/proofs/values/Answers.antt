@@ -1,6 +1,6 @@
 -- Each return is one law of proofs/Outcome, with what the calls before it left. Assumes nothing.
 use mathlib.Core.Path.{◌≡◌, sym, ap, ap₂, ◌∙◌}
-use mathlib.Core.Bool.{true, false}
+use mathlib.Core.Bool.{not, true, false}
 use Prim.Native.Nat.{ℕ, ◌≤◌}
 use mathlib.Core.List.{List, [], ◌∷◌}
 use native.Mathlib.Omega.{arith}
@@ -105,11 +105,11 @@ module _ (c : After-target_widths-a) where
         → b ≡ given_answer target all-widths given
     given_is b e = e ∙ ap (λ (l : List ℕ). given_answer target l given) front
 
-pub returns-then-not-is_accepted : goal.returns-then-not-is_accepted
-returns-then-not-is_accepted c = record {
+pub returns-then-is_err : goal.returns-then-is_err
+returns-then-is_err c = record {
   outcome =
-      let w = (goal.at.returns-then-not-is_accepted c).After-target_widths-a in
-      let refused = rw (answer w) at (sym c.is_accepted.ensures.test ∙ c.if-not-is_accepted.true) in
+      let w = (goal.at.returns-then-is_err c).After-target_widths-a in
+      let refused = rw (answer w) at (c.is_err.ensures.negation ∙ ap not c.if-is_err.true) in
       rw (widths-refused (target w) (bits w) (ws w) _ _ w.target_widths-a.ensures.outcome (whole w) (room w) refused, c.clear.ensures.zeros)
       (ap (λ (a : Answer). result_of a (replicate (length (ws w)) 0 ∷ replicate (length (vs w)) 0 ∷ [])) (answer w)
       ∙ sym (values-rows (target w) (bits w) (given w) (ws w) (vs w) (whole w) (room w) (room-too w) refused));
@@ -121,16 +121,16 @@ slice_bounds-given_answer-end-2 c = sym (length-take-le _ _ (omega (arith, c.tar
 pub given_answer-b-requires : goal.given_answer-b-requires
 given_answer-b-requires c =
     let w = (goal.at.given_answer-b-requires c).After-target_widths-a in
-    rw (front w (sym c.is_accepted.ensures.test ∙ c.if-not-is_accepted.false)) (many w)
+    rw (front w (c.is_err.ensures.negation ∙ ap not c.if-is_err.false)) (many w)
 
-pub returns-then-not-is_accepted-2 : goal.returns-then-not-is_accepted-2
-returns-then-not-is_accepted-2 c = record {
+pub returns-then-is_err-2 : goal.returns-then-is_err-2
+returns-then-is_err-2 c = record {
   outcome =
-      let w = (goal.at.returns-then-not-is_accepted-2 c).After-target_widths-a in
-      let passed = sym c.is_accepted.ensures.test ∙ c.if-not-is_accepted.false in
+      let w = (goal.at.returns-then-is_err-2 c).After-target_widths-a in
+      let passed = c.is_err.ensures.negation ∙ ap not c.if-is_err.false in
       let is = given_is w passed _ c.given_answer-b.ensures.answer in
-      let refused = rw is at (sym c.is_accepted-2.ensures.test ∙ c.if-not-is_accepted-2.true) in
-      rw (c.clear-then-not-is_accepted-2.ensures.zeros, w.target_widths-a.auto.ws, c.clear-then-not-is_accepted-2-2.ensures.zeros, is)
+      let refused = rw is at (c.is_err-2.ensures.negation ∙ ap not c.if-is_err-2.true) in
+      rw (c.clear-then-is_err-2.ensures.zeros, w.target_widths-a.auto.ws, c.clear-then-is_err-2-2.ensures.zeros, is)
       (sym (values-given (target w) (bits w) (given w) (ws w) (vs w) (whole w) (room w) (room-too w) (rows w passed) refused));
 }
 
@@ -140,8 +140,8 @@ slice_bounds-evaluate-end-2 c = sym (length-take-le _ _ (omega (arith, c.target_
 pub evaluate-requires : goal.evaluate-requires
 evaluate-requires c =
     let w = (goal.at.evaluate-requires c).After-target_widths-a in
-    let passed = sym c.is_accepted.ensures.test ∙ c.if-not-is_accepted.false in
-    let words = rw (given_is w passed _ c.given_answer-b.ensures.answer) at (sym c.is_accepted-2.ensures.test ∙ c.if-not-is_accepted-2.false) in
+    let passed = c.is_err.ensures.negation ∙ ap not c.if-is_err.false in
+    let words = rw (given_is w passed _ c.given_answer-b.ensures.answer) at (c.is_err-2.ensures.negation ∙ ap not c.if-is_err-2.false) in
     record {
       evaluable = rw (front w passed) (evaluable (target w) (bits w) (given w) (rows w passed) words);
       ws_in_bounds = rw (front w passed, many w) (room-too w);
@@ -151,8 +151,8 @@ pub returns : goal.returns
 returns c = record {
   outcome =
       let w = (goal.at.returns c).After-target_widths-a in
-      let passed = sym c.is_accepted.ensures.test ∙ c.if-not-is_accepted.false in
-      let words = rw (given_is w passed _ c.given_answer-b.ensures.answer) at (sym c.is_accepted-2.ensures.test ∙ c.if-not-is_accepted-2.false) in
+      let passed = c.is_err.ensures.negation ∙ ap not c.if-is_err.false in
+      let words = rw (given_is w passed _ c.given_answer-b.ensures.answer) at (c.is_err-2.ensures.negation ∙ ap not c.if-is_err-2.false) in
       let v = c.evaluate in
       ap₂ (λ (k l : List ℕ). result_of Accepted (k ∷ l ∷ []))
       (widths-accepted (target w) (bits w) (ws w) _ _ w.target_widths-a.ensures.outcome (whole w) (room w) (rows w passed))
