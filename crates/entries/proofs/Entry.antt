@@ -18,8 +18,8 @@ use Rattle.entries.specs.declared.Table.TheVariants.{Reads, Calls}
 use Rattle.entries.specs.Entries.{stride, sort_in, is_var, free, own, good, ArgsBefore}
 
 pub stride-pos : (which : Table) (w : ℕ) → w ≡ stride which → 0 < w
-stride-pos Reads w e = omega arith
-stride-pos Calls w e = omega arith
+stride-pos (Reads _) w e = omega arith
+stride-pos (Calls _) w e = omega arith
 
 -- entry k of w words lies at off: it counts where off is in the table, and none is left where off is past it
 module _ (w : ℕ) (pos : 0 < w) (table : List ℕ) (off k : ℕ) (at : off ≡ k * w) where
@@ -36,47 +36,47 @@ module _ (w : ℕ) (pos : 0 < w) (table : List ℕ) (off k : ℕ) (at : off ≡ 
   past h = le_of_suc-le-suc ((div-lt_iff_lt-mul pos).1 (rw (sym next) (omega arith)))
 
 -- either table's tests by the parts that differ
-good-is : (which : Table) (second : Bool) (table beside target ws cls : List ℕ) (k : ℕ)
-    → good which second table beside target ws cls k
-    ≡ entry_good (stride which) (is_var which (sort_in which second table beside k).cell) table target cls k
-    (own which (sort_in which second table beside k).index table beside ws (row_count Target target) k)
+good-is : (which : Table) (table target ws cls : List ℕ) (k : ℕ)
+    → good which table target ws cls k
+    ≡ entry_good (stride which) (is_var which (sort_in which table k).cell) table target cls k
+    (own which (sort_in which table k).index table ws (row_count Target target) k)
 unfolding read_good call_good
-good-is Reads second table beside target ws cls k = refl
-good-is Calls second table beside target ws cls k = refl
+good-is (Reads _) table target ws cls k = refl
+good-is (Calls _) table target ws cls k = refl
 
-module _ (which : Table) (second : Bool) (table beside target ws cls : List ℕ) (k : ℕ) where
+module _ (which : Table) (table target ws cls : List ℕ) (k : ℕ) where
   module _ (w off : ℕ) (size : w ≡ stride which) (at : off ≡ k * w) where
     -- the entry is cut
-    pub good-cut : length table < off + w → false ≡ good which second table beside target ws cls k
-    good-cut h = fails _ (lt-leb _ _ (rw (at, size) at h)) ∙ sym (good-is which second table beside target ws cls k)
+    pub good-cut : length table < off + w → false ≡ good which table target ws cls k
+    good-cut h = fails _ (lt-leb _ _ (rw (at, size) at h)) ∙ sym (good-is which table target ws cls k)
 
     module _ (whole : off + w ≤ length table) where
       pub whole-at : k * stride which + stride which ≤ length table
       whole-at = rw (at, size) at whole
 
       -- its variable is not free
-      pub good-taken : free which (sort_in which second table beside k).cell target cls (get_or table off 0) ≡ false
-          → false ≡ good which second table beside target ws cls k
+      pub good-taken : free which (sort_in which table k).cell target cls (get_or table off 0) ≡ false
+          → false ≡ good which table target ws cls k
       good-taken e =
-          fails _ (rw (at, size) at e) ∙ three _ _ _ _ ∙ passes _ (le-leb _ _ whole-at) ∙ sym (good-is which second table beside target ws cls k)
+          fails _ (rw (at, size) at e) ∙ three _ _ _ _ ∙ passes _ (le-leb _ _ whole-at) ∙ sym (good-is which table target ws cls k)
 
       -- its own tests decide
-      pub good-own : free which (sort_in which second table beside k).cell target cls (get_or table off 0) ≡ true
-          → all (own which (sort_in which second table beside k).index table beside ws (row_count Target target) k)
-          ≡ good which second table beside target ws cls k
+      pub good-own : free which (sort_in which table k).cell target cls (get_or table off 0) ≡ true
+          → all (own which (sort_in which table k).index table ws (row_count Target target) k)
+          ≡ good which table target ws cls k
       good-own e =
-          passes _ (rw (at, size) at e) ∙ three _ _ _ _ ∙ passes _ (le-leb _ _ whole-at) ∙ sym (good-is which second table beside target ws cls k)
+          passes _ (rw (at, size) at e) ∙ three _ _ _ _ ∙ passes _ (le-leb _ _ whole-at) ∙ sym (good-is which table target ws cls k)
 
     -- a good entry is whole, and its variable is a row
-    pub good-whole : good which second table beside target ws cls k ≡ true → (off + w ≤ length table) × (get_or table off 0 < row_count Target target)
+    pub good-whole : good which table target ws cls k ≡ true → (off + w ≤ length table) × (get_or table off 0 < row_count Target target)
     good-whole e =
-        let (a, (b, _)) = all_true _ (sym (good-is which second table beside target ws cls k) ∙ e) in
+        let (a, (b, _)) = all_true _ (sym (good-is which table target ws cls k) ∙ e) in
         rw (at, size) (leb-true _ _ a, ltb-true _ _ b)
 
 -- where the entries before k are good, their arguments lie in their list
-pub args-within : (which : Table) (second : Bool) (table beside target ws : List ℕ) (cls : ℕ → List ℕ) (k : ℕ)
-    → ((j : ℕ) → j < k → not (good which second table beside target ws (cls j) j) ≡ false) → ArgsBefore which table beside k
+pub args-within : (which : Table) (table target ws : List ℕ) (cls : ℕ → List ℕ) (k : ℕ)
+    → ((j : ℕ) → j < k → not (good which table target ws (cls j) j) ≡ false) → ArgsBefore which table k
 unfolding call_good
-args-within Reads second table beside target ws cls k h = tt
-args-within Calls second table beside target ws cls k h =
+args-within (Reads _) table target ws cls k h = tt
+args-within (Calls args) table target ws cls k h =
     λ l b. let (_, (_, (_, (_, (d, _))))) = all_true _ (not-false _ (h l b)) in leb-true _ _ d

@@ -4,7 +4,7 @@ use Rattle.std.specs.Prelude.{ℕ, ◌+◌, Bool, List, [], ◌∷◌, eqb, ltb,
 use Rattle.lists.specs.First.{none}
 use Rattle.lists.specs.Tests.{all}
 use Rattle.sorts.specs.declared.Sort.{Sort}
-use Rattle.sorts.specs.Sorts.{edition, sorts_of}
+use Rattle.sorts.specs.Sorts.{edition_given, sorts_of}
 use Rattle.sorts.specs.Good.{Good}
 use Rattle.rows.specs.declared.Graph.TheVariants.{Target}
 use Rattle.rows.specs.declared.Node.TheVariants.{Var}
@@ -19,21 +19,20 @@ use Rattle.entries.specs.declared.Table.TheVariants.{Reads, Calls}
 
 -- the words of an entry
 abbrev pub stride : Table → ℕ
-stride Reads = 3
-stride Calls = 4
+stride (Reads _) = 3
+stride (Calls _) = 4
 
--- beside its entries a read table has the sorts of its edition, a call table the list of arguments. The sort of a read entry's array: the width of
--- its index, and of its variable, which is a cell's; an entry of calls has none
-abbrev pub sort_in : Table → Bool → List ℕ → List ℕ → ℕ → Sort
-sort_in Reads second table beside k =
-    let σ = sorts_of (edition second beside) in
+-- The sort of a read entry's array: the width of its index, and of its variable, which is a cell's; an entry of calls has none
+abbrev pub sort_in : Table → List ℕ → ℕ → Sort
+sort_in (Reads sorts) table k =
+    let σ = sorts_of (edition_given sorts) in
     record { index = σ.index (read_array table k); cell = σ.cell (read_array table k) }
-sort_in Calls second table beside k = record { index = 0; cell = 0 }
+sort_in (Calls _) table k = record { index = 0; cell = 0 }
 
 -- "no free Var (width 8 for reads)", where 8 is the array's cell width cw: the row of an entry's variable; such a row in class 0
 abbrev pub is_var : Table → ℕ → List ℕ → Bool
-is_var Reads cw r = row_is r (Var cw)
-is_var Calls cw r = eqb (get_or r 0 0) t_var
+is_var (Reads _) cw r = row_is r (Var cw)
+is_var (Calls _) cw r = eqb (get_or r 0 0) t_var
 
 abbrev pub free : Table → ℕ → List ℕ → List ℕ → ℕ → Bool
 free which cw target cls v = all (ltb v (row_count Target target) ∷ is_var which cw (row_at Target target v) ∷ eqb (get_or cls v 0) 0 ∷ [])
@@ -53,21 +52,21 @@ call_own calls cargs ws n k =
     ∷ none (λ l. same_call calls cargs ws l k) k
     ∷ []
 
-abbrev pub own : Table → ℕ → List ℕ → List ℕ → List ℕ → ℕ → ℕ → List Bool
-own Reads iw table beside ws n k = read_own iw table ws k
-own Calls iw table beside ws n k = call_own table beside ws n k
+abbrev pub own : Table → ℕ → List ℕ → List ℕ → ℕ → ℕ → List Bool
+own (Reads _) iw table ws n k = read_own iw table ws k
+own (Calls args) iw table ws n k = call_own table args.now ws n k
 
 -- entry k is good, with the classes after the entries before
-abbrev pub good : Table → Bool → List ℕ → List ℕ → List ℕ → List ℕ → List ℕ → ℕ → Bool
-good Reads second table beside target ws cls k = read_good (sorts_of (edition second beside)) table target ws cls k
-good Calls second table beside target ws cls k = call_good table beside target ws cls k
+abbrev pub good : Table → List ℕ → List ℕ → List ℕ → List ℕ → ℕ → Bool
+good (Reads sorts) table target ws cls k = read_good (sorts_of (edition_given sorts)) table target ws cls k
+good (Calls args) table target ws cls k = call_good table args.now target ws cls k
 
 -- where reads are looked at, the table of sorts is good
-abbrev pub Sorted : Table → Bool → List ℕ → Type 0
-Sorted Reads second beside = Good (edition second beside)
-Sorted Calls second beside = Unit {0}
+abbrev pub Sorted : Table → Type 0
+Sorted (Reads sorts) = Good (edition_given sorts)
+Sorted (Calls _) = Unit {0}
 
 -- where calls are searched, the arguments of the entries before k lie in the argument list
-abbrev pub ArgsBefore : Table → List ℕ → List ℕ → ℕ → Type 0
-ArgsBefore Reads table beside k = Unit {0}
-ArgsBefore Calls table beside k = ArgsInside table beside k
+abbrev pub ArgsBefore : Table → List ℕ → ℕ → Type 0
+ArgsBefore (Reads _) table k = Unit {0}
+ArgsBefore (Calls args) table k = ArgsInside table args.now k

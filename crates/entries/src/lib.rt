@@ -11,40 +11,40 @@ ghost use Rattle.entries.specs.Entries.{stride, sort_in, is_var, free, args_in, 
 use rows::{Graph, tag};
 use sorts::Sort;
 
-// Which table a list of words holds.
+// Which table a list of words holds, with what its entries are read by: the sorts of its edition, the calls' arguments.
 #[derive(Clone, Copy)]
-pub enum Table {
-    Reads,
-    Calls,
+pub enum Table<'a> {
+    Reads(Option<&'a [u64]>),
+    Calls(&'a [u64]),
 }
 
-// The sort of entry k's array, for reads; a read table has the sorts of its edition beside it.
-fn sort_in(which: Table, second: bool, table: &[u64], beside: &[u64], k: usize) -> Sort
+// The sort of entry k's array, for reads.
+fn sort_in(which: Table, table: &[u64], k: usize) -> Sort
     requires which_in_bounds { k * stride which + stride which ≤ length table.now }
-    requires sorted { Sorted which second beside.now }
-    ensures sort { (result.index ≡ (sort_in which second table.now beside.now k).index)
-        × (result.cell ≡ (sort_in which second table.now beside.now k).cell) }
+    requires sorted { Sorted which }
+    ensures sort { (result.index ≡ (sort_in which.entry table.now k).index)
+        × (result.cell ≡ (sort_in which.entry table.now k).cell) }
 {
     match which {
-        Table::Reads => sorts::sort_of(second, beside, table[k * 3 + 1]),
-        Table::Calls => Sort { index: 0, cell: 0 },
+        Table::Reads(sorts) => sorts::sort_of(sorts, table[k * 3 + 1]),
+        Table::Calls(_) => Sort { index: 0, cell: 0 },
     }
 }
 
 // The row of an entry's variable is a Var, for reads of a cell's width.
 fn is_var(which: Table, cw: u64, r: [u64; 5]) -> bool
-    ensures test { result ≡ is_var which cw r }
+    ensures test { result ≡ is_var which.entry cw r }
 {
     match which {
-        Table::Reads => images::row_is_var(r, cw),
-        Table::Calls => rows::node_tag(r) == tag::VAR,
+        Table::Reads(_) => images::row_is_var(r, cw),
+        Table::Calls(_) => rows::node_tag(r) == tag::VAR,
     }
 }
 
 // Row v is such a Var in class 0.
 fn free_var(which: Table, cw: u64, target: &[u64], cls: &[u64], v: u64) -> bool
     requires { length cls.now ≡ row_count Graph.Target target.now }
-    ensures test { result ≡ free which cw target.now cls.now v }
+    ensures test { result ≡ free which.entry cw target.now cls.now v }
 {
     if cls.len() as u64 <= v {
         return false;
@@ -94,32 +94,22 @@ fn call_own(calls: &[u64], cargs: &[u64], ws: &[u64], n: u64, k: usize) -> bool
     !keys::call_dup(calls, cargs, ws, k)
 }
 
-fn own_good(
-    which: Table,
-    iw: u64,
-    table: &[u64],
-    beside: &[u64],
-    ws: &[u64],
-    n: u64,
-    k: usize,
-) -> bool
+fn own_good(which: Table, iw: u64, table: &[u64], ws: &[u64], n: u64, k: usize) -> bool
     requires which_in_bounds { k * stride which + stride which ≤ length table.now }
-    requires args_before { ArgsBefore which table.now beside.now k }
-    ensures test { result ≡ all (own which iw table.now beside.now ws.now n k) }
+    requires args_before { ArgsBefore which table.now k }
+    ensures test { result ≡ all (own which.entry iw table.now ws.now n k) }
 {
     match which {
-        Table::Reads => read_own(iw, table, ws, k),
-        Table::Calls => call_own(table, beside, ws, n, k),
+        Table::Reads(_) => read_own(iw, table, ws, k),
+        Table::Calls(args) => call_own(table, args, ws, n, k),
     }
 }
 
-// Entry k, of w words at off, is good, with the classes after the entries before; beside the table stand the sorts of reads, the arguments of calls.
+// Entry k, of w words at off, is good, with the classes after the entries before.
 pub fn entry_good(
     which: Table,
-    second: bool,
     w: usize,
     table: &[u64],
-    beside: &[u64],
     target: &[u64],
     ws: &[u64],
     cls: &[u64],
@@ -127,18 +117,17 @@ pub fn entry_good(
     k: usize,
 ) -> bool
     requires w_value { (w ≡ stride which) × (off ≡ k * w) × (off < length table.now) }
-    requires sorted { Sorted which second beside.now }
-    requires args_before { ArgsBefore which table.now beside.now k }
+    requires sorted { Sorted which }
+    requires args_before { ArgsBefore which table.now k }
     requires cls_len { length cls.now ≡ row_count Graph.Target target.now }
-    ensures test { result ≡ good which second table.now beside.now target.now ws.now
-        cls.now k }
+    ensures test { result ≡ good which.entry table.now target.now ws.now cls.now k }
 {
     if table.len() - off < w {
         return false;
     }
-    let sort = sort_in(which, second, table, beside, k);
+    let sort = sort_in(which, table, k);
     if !free_var(which, sort.cell, target, cls, table[off]) {
         return false;
     }
-    own_good(which, sort.index, table, beside, ws, cls.len() as u64, k)
+    own_good(which, sort.index, table, ws, cls.len() as u64, k)
 }

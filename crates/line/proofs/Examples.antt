@@ -1,7 +1,7 @@
 -- Lines computed. Assumes nothing.
 use mathlib.Core.Path.{◌≡◌, refl}
 use mathlib.Core.List.{[], ◌∷◌}
-use Rattle.answers.specs.Answer.{words}
+use Rattle.answers.specs.Refusal.{words}
 use Rattle.line.specs.Line.{decimal_in, line_of}
 
 -- number 0: `accepted`

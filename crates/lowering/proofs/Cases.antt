@@ -5,7 +5,8 @@ use mathlib.Core.Bool.{true}
 use mathlib.Core.List.{List, [], ◌∷◌}
 use Rattle.answers.specs.declared.Words.{Words}
 use Rattle.answers.specs.Answer.{Accepted, ChainMismatch, WorkShort, BadRoot}
-use Rattle.answers.specs.Answer.{words, words_of}
+use Rattle.answers.specs.Answer.{words_of}
+use Rattle.answers.specs.Refusal.{words}
 use Rattle.answers.specs.Result.{Result, result_of}
 use Rattle.bv.specs.Bits.{of_bits}
 use Rattle.bv.specs.Bv.{bvsdiv, bvsrem, bvrotr, rotate_right}

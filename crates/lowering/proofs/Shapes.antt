@@ -5,7 +5,8 @@ use mathlib.Core.Bool.{true, false}
 use mathlib.Core.List.{List, [], ◌∷◌}
 use Rattle.answers.specs.declared.Words.{Words}
 use Rattle.answers.specs.Answer.{SortTable}
-use Rattle.answers.specs.Answer.{words, words_of}
+use Rattle.answers.specs.Answer.{words_of}
+use Rattle.answers.specs.Refusal.{words}
 use Rattle.answers.specs.Result.{result_of}
 use Rattle.lists.specs.Build.{build}
 use Rattle.lists.specs.First.{first}

@@ -1,3 +1,4 @@
+pub mod Asked
 pub mod Lowering
 pub mod Images
 pub mod Tables

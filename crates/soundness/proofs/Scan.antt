@@ -11,7 +11,8 @@ use lib.Dec.{eqb}
 use lib.ListN.{get_or}
 use lib.Pow.{pow_pos}
 use Rattle.sorts.specs.Sorts.{plain}
-use Rattle.answers.specs.Answer.{words, words_of}
+use Rattle.answers.specs.Answer.{words_of}
+use Rattle.answers.specs.Refusal.{words}
 use Rattle.bv.specs.Bits.{of_bits, of_bool}
 use Rattle.lists.specs.Build.{build}
 use Rattle.lists.specs.First.{first}

@@ -12,7 +12,7 @@ pub returns-then-table-off : goal.returns-then-table-off
 returns-then-table-off c = record {
   test =
       let s = c.args in
-      good-cut s.which s.second _ _ _ _ _ _ s.w s.off c.requires.w_value.0 c.requires.w_value.1 (omega arith);
+      good-cut s.which _ _ _ _ _ s.w s.off c.requires.w_value.0 c.requires.w_value.1 (omega arith);
 }
 
 -- the entry is whole
@@ -21,7 +21,7 @@ whole : (c : Else-table-off)
     s.k * stride s.which + stride s.which ≤ length s.table.now
 whole c =
     let s = c.args in
-    whole-at s.which s.second s.table.now s.beside.now s.target.now s.ws.now s.cls.now s.k s.w s.off c.requires.w_value.0
+    whole-at s.which s.table.now s.target.now s.ws.now s.cls.now s.k s.w s.off c.requires.w_value.0
     c.requires.w_value.1
     (omega arith)
 
@@ -35,7 +35,7 @@ pub returns-then-not-free_var : goal.returns-then-not-free_var
 returns-then-not-free_var c = record {
   test =
       let s = c.args in
-      good-taken s.which s.second _ _ _ _ _ _ s.w s.off c.requires.w_value.0 c.requires.w_value.1 (omega arith)
+      good-taken s.which _ _ _ _ _ s.w s.off c.requires.w_value.0 c.requires.w_value.1 (omega arith)
       (rw c.sort_in-sort.ensures.sort.1 at (sym c.free_var.ensures.test ∙ c.if-not-free_var.true));
 }
 
@@ -51,6 +51,6 @@ returns c = record {
       let s = c.args in
       rw c.sort_in-sort.ensures.sort.0 at c.own_good.ensures.test
       ∙ rw c.requires.cls_len
-      (good-own s.which s.second _ _ _ _ _ _ s.w s.off c.requires.w_value.0 c.requires.w_value.1 (omega arith)
+      (good-own s.which _ _ _ _ _ s.w s.off c.requires.w_value.0 c.requires.w_value.1 (omega arith)
       (rw c.sort_in-sort.ensures.sort.1 at (sym c.free_var.ensures.test ∙ c.if-not-free_var.false)));
 }

@@ -15,7 +15,7 @@ use Rattle.tables.proofs.table_entries.Goals.{Else-not-entry_good, In-loop-off}
 pub loop-off-init : goal.loop-off-init
 loop-off-init c =
     let s = c.args in
-    marked-none s.table.now s.w s.class (good s.which s.second s.table.now s.beside.now s.target.now s.ws.now)
+    marked-none s.table.now s.w s.class (good s.which s.table.now s.target.now s.ws.now)
     s.cls.now s.ent.now
 
 pub entry_good-requires : goal.entry_good-requires
@@ -24,7 +24,7 @@ entry_good-requires c =
     record {
       w_value = (c.requires.w_value, i.0, omega arith);
       sorted = c.requires.sorted;
-      args_before = args-within c.args.which c.args.second _ _ c.args.target.now c.args.ws.now _ _ i.6;
+      args_before = args-within c.args.which _ c.args.target.now c.args.ws.now _ _ i.6;
       cls_len = i.2 ∙ c.requires.cls_len;
     }
 
@@ -40,7 +40,7 @@ returns-then-not-entry_good c =
     let s = c.args in
     let l = c.loop-off in
     let p =
-    marked-stop s.table.now s.w s.class (good s.which s.second s.table.now s.beside.now s.target.now s.ws.now) s.cls.now s.ent.now l.cls l.ent l.off
+    marked-stop s.table.now s.w s.class (good s.which s.table.now s.target.now s.ws.now) s.cls.now s.ent.now l.cls l.ent l.off
     l.k l.invariant _
     (counts (goal.at.returns-then-not-entry_good c).In-loop-off) c.entry_good.ensures.test (ap not c.if-not-entry_good.true) in
     record { entry = p.0; classes = p.1.0; offsets = p.1.1 }
@@ -48,7 +48,7 @@ returns-then-not-entry_good c =
 -- the entry is good: it is whole, and its variable has a place in both lists
 is-good : (c : Else-not-entry_good)
     → let s = c.args in
-    good s.which s.second s.table.now s.beside.now s.target.now s.ws.now c.loop-off.cls c.loop-off.k ≡ true
+    good s.which s.table.now s.target.now s.ws.now c.loop-off.cls c.loop-off.k ≡ true
 is-good c = sym c.entry_good.ensures.test ∙ c.if-not-entry_good.false
 
 fits : (c : Else-not-entry_good)
@@ -59,7 +59,7 @@ fits : (c : Else-not-entry_good)
 fits c =
     let s = c.args in
     let l = c.loop-off in
-    let (a, d) = good-whole s.which s.second _ _ _ _ _ l.k s.w l.off c.requires.w_value l.invariant.0 (is-good c) in
+    let (a, d) = good-whole s.which _ _ _ _ l.k s.w l.off c.requires.w_value l.invariant.0 (is-good c) in
     (a, rw (l.invariant.2, c.requires.cls_len) d, rw (l.invariant.3, c.requires.ent_len) d)
 
 pub offset_bounds-cls-v : goal.offset_bounds-cls-v
@@ -91,7 +91,7 @@ pub loop-off-preserved : goal.loop-off-preserved
 loop-off-preserved c =
     let s = c.args in
     let l = c.loop-off in
-    marked_more s.table.now s.w s.class (good s.which s.second s.table.now s.beside.now s.target.now s.ws.now) s.cls.now s.ent.now l.cls l.ent l.off
+    marked_more s.table.now s.w s.class (good s.which s.table.now s.target.now s.ws.now) s.cls.now s.ent.now l.cls l.ent l.off
     l.k l.invariant
     (counts (goal.at.loop-off-preserved c).In-loop-off) (is-good (goal.at.loop-off-preserved c).Else-not-entry_good)
 
@@ -100,7 +100,7 @@ returns c =
     let s = c.args in
     let l = c.loop-off in
     let p =
-    marked-end s.table.now s.w s.class (good s.which s.second s.table.now s.beside.now s.target.now s.ws.now) s.cls.now s.ent.now l.cls l.ent l.off
+    marked-end s.table.now s.w s.class (good s.which s.table.now s.target.now s.ws.now) s.cls.now s.ent.now l.cls l.ent l.off
     l.k l.invariant
     (past s.w (stride-pos s.which s.w c.requires.w_value) s.table.now l.off l.k l.invariant.0 (omega arith)) in
     record { entry = p.0; classes = p.1.0; offsets = p.1.1 }

@@ -7,7 +7,7 @@ use Rattle.tables.proofs.table_entries.Given as goal
 
 abbrev pub invariant-loop-off : goal.invariant-loop-off
 invariant-loop-off l =
-    Marked l.table l.w l.class (good l.which l.second l.table l.beside l.target l.ws) l.initial.cls l.initial.ent l.cls l.ent l.off l.k
+    Marked l.table l.w l.class (good l.which l.table l.target l.ws) l.initial.cls l.initial.ent l.cls l.ent l.off l.k
 
 abbrev pub decreases-loop-off : goal.decreases-loop-off
 decreases-loop-off l = length l.table - l.off
