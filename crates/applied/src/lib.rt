@@ -9,6 +9,7 @@ ghost use Rattle.rows.specs.Row.{row_count};
 ghost use Rattle.rows.specs.Tags.{either};
 ghost use Rattle.applied.specs.Ready.{ArgsWithin};
 
+use lowering::Asked;
 use rows::Graph;
 
 // The classes of a call variable.
@@ -39,25 +40,16 @@ fn args_match(eside: &[u64], map: &[u64], cargs: &[u64], s: usize, cs: usize, k:
 }
 
 // Target row r is the result variable of a Call's function, of its width, at the images of its arguments.
-fn call_ok(
-    eside: &[u64],
-    map: &[u64],
-    calls: &[u64],
-    cargs: &[u64],
-    target: &[u64],
-    ent: &[u64],
-    cls: &[u64],
-    e: [u64; 5],
-    r: usize,
-) -> bool
-    requires r_bound { (r < row_count Graph.Target target.now) × (length ent.now ≡ row_count Graph.Target target.now)
-        × (length cls.now ≡ row_count Graph.Target target.now) }
-    requires args_within { ArgsWithin eside.now (get_or e 3 0) (get_or e 4 0) }
-    ensures test { result ≡ call_matches calls.now cargs.now target.now
+fn call_ok(asked: &Asked, ent: &[u64], cls: &[u64], e: [u64; 5], r: usize) -> bool
+    requires r_bound { (r < row_count Graph.Target asked.now.target.rows.now) × (length ent.now ≡ row_count Graph.Target asked.now.target.rows.now)
+        × (length cls.now ≡ row_count Graph.Target asked.now.target.rows.now) }
+    requires args_within { ArgsWithin asked.now.source.side.now (get_or e 3 0) (get_or e 4 0) }
+    ensures test { result ≡ call_matches asked.now.calls.now asked.now.cargs.now asked.now.target.rows.now
         (noted cls.now ent.now) (get_or e 1 0) (get_or e 2 0) (get_or e 4 0)
-        (mapped_arg map.now eside.now (get_or e 3 0)) r }
+        (mapped_arg asked.now.map.now asked.now.source.side.now (get_or e 3 0)) r }
 {
-    if !images::row_is_var(rows::row(Graph::Target, target, r), e[2]) {
+    let Asked { calls, cargs, .. } = *asked;
+    if !images::row_is_var(rows::row(Graph::Target, asked.target.rows, r), e[2]) {
         return false;
     }
     if !call_class(cls[r]) {
@@ -79,30 +71,27 @@ fn call_ok(
     if !lists::within(cargs.len() as u64, cs, k) {
         return false;
     }
-    args_match(eside, map, cargs, e[3] as usize, cs as usize, k as usize)
+    args_match(
+        asked.source.side,
+        asked.map,
+        cargs,
+        e[3] as usize,
+        cs as usize,
+        k as usize,
+    )
 }
 
 // A Call row against its image: the variable becomes 5.
-pub fn call_corr(
-    eside: &[u64],
-    map: &[u64],
-    calls: &[u64],
-    cargs: &[u64],
-    target: &[u64],
-    ent: &[u64],
-    cls: &mut [u64],
-    e: [u64; 5],
-    r: usize,
-) -> bool
-    requires r_bound { (r < row_count Graph.Target target.now) × (length ent.now ≡ row_count Graph.Target target.now)
-        × (length cls.old ≡ row_count Graph.Target target.now) }
-    requires args_within { ArgsWithin eside.now (get_or e 3 0) (get_or e 4 0) }
-    ensures test { result ≡ call_matches calls.now cargs.now target.now
+pub fn call_corr(asked: &Asked, ent: &[u64], cls: &mut [u64], e: [u64; 5], r: usize) -> bool
+    requires r_bound { (r < row_count Graph.Target asked.now.target.rows.now) × (length ent.now ≡ row_count Graph.Target asked.now.target.rows.now)
+        × (length cls.old ≡ row_count Graph.Target asked.now.target.rows.now) }
+    requires args_within { ArgsWithin asked.now.source.side.now (get_or e 3 0) (get_or e 4 0) }
+    ensures test { result ≡ call_matches asked.now.calls.now asked.now.cargs.now asked.now.target.rows.now
         (noted cls.old ent.now) (get_or e 1 0) (get_or e 2 0) (get_or e 4 0)
-        (mapped_arg map.now eside.now (get_or e 3 0)) r }
+        (mapped_arg asked.now.map.now asked.now.source.side.now (get_or e 3 0)) r }
     ensures list { cls.new ≡ cond result (set cls.old r 5) cls.old }
 {
-    if !call_ok(eside, map, calls, cargs, target, ent, cls, e, r) {
+    if !call_ok(asked, ent, cls, e, r) {
         return false;
     }
     cls[r] = 5;

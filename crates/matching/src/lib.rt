@@ -4,7 +4,8 @@
 ghost use Rattle.std.specs.Prelude.{◌≡◌, cond, ◌<◌, length, set};
 ghost use Rattle.answers.specs.Answer.{is_accepted};
 ghost use Rattle.images.specs.Bits.{BitsWithin, ConstsWithin};
-ghost use Rattle.lowering.specs.Lowering.{source_graph, target_graph, binding};
+ghost use Rattle.lowering.specs.Asked.{lowering_of};
+ghost use Rattle.lowering.specs.Lowering.{binding_of};
 ghost use Rattle.lowering.specs.Images.{same_const};
 ghost use Rattle.lowering.specs.Matching.{noted, var_matches, node_matches, matched, node_answer, node_classes, row_answer, row_classes};
 ghost use Rattle.lowering.specs.Matching.{classes_to, refused_row, all_rows_answer, dead_entry};
@@ -15,6 +16,7 @@ ghost use Rattle.rows.specs.Node.{node_of};
 ghost use Rattle.matching.specs.Ready.{Formed};
 
 use answers::{Answer, Refusal};
+use lowering::Asked;
 use rows::{Graph, MAX, tag};
 
 // The classes of a read or call variable that nothing has reached.
@@ -75,135 +77,81 @@ fn node_corr(map: &[u64], target: &[u64], e: [u64; 5], r: usize) -> bool
 }
 
 // Acceptance where a row matches.
-fn matched(b: bool, refusal: Answer) -> Answer
-    ensures answer { result ≡ matched b refusal }
+fn matched(b: bool, refusal: Refusal) -> Answer
+    ensures answer { result ≡ matched b (Err refusal) }
 {
-    if b {
-        return Ok(());
-    }
-    refusal
+    if b { Ok(()) } else { Err(refusal) }
 }
 
 // Source row i against its image, target row r.
-fn row_corr(
-    source: &[u64],
-    ebits: &[u8],
-    eside: &[u64],
-    map: &[u64],
-    reads: &[u64],
-    calls: &[u64],
-    cargs: &[u64],
-    target: &[u64],
-    tbits: &[u8],
-    ent: &[u64],
-    cls: &mut [u64],
-    i: usize,
-    r: usize,
-) -> Answer
-    requires formed { Formed (source_graph source.now ebits.now eside.now) (target_graph target.now tbits.now) }
-    requires ent_len { (length ent.now ≡ row_count Graph.Target target.now) × (length cls.old ≡ row_count Graph.Target target.now) }
-    requires i_bound { (i < row_count Graph.Source source.now) × (r < row_count Graph.Target target.now) }
-    ensures answer { result ≡ node_answer (binding source.now ebits.now eside.now map.now
-        reads.now calls.now cargs.now target.now tbits.now)
-        (noted cls.old ent.now) i r (node_of (row_at Graph.Source source.now i)) }
+fn row_corr(asked: &Asked, ent: &[u64], cls: &mut [u64], i: usize, r: usize) -> Answer
+    requires formed { Formed (lowering_of asked.now).source (lowering_of asked.now).target }
+    requires ent_len { (length ent.now ≡ row_count Graph.Target asked.now.target.rows.now) × (length cls.old ≡ row_count Graph.Target asked.now.target.rows.now) }
+    requires i_bound { (i < row_count Graph.Source asked.now.source.rows.now) × (r < row_count Graph.Target asked.now.target.rows.now) }
+    ensures answer { result ≡ node_answer (binding_of (lowering_of asked.now))
+        (noted cls.old ent.now) i r (node_of (row_at Graph.Source asked.now.source.rows.now i)) }
     ensures list { cls.new ≡ cond (is_accepted result) (node_classes
-        (binding source.now ebits.now eside.now map.now
-        reads.now calls.now cargs.now target.now tbits.now)
-        cls.old r (node_of (row_at Graph.Source source.now i))) cls.old }
+        (binding_of (lowering_of asked.now))
+        cls.old r (node_of (row_at Graph.Source asked.now.source.rows.now i))) cls.old }
 {
-    let e = rows::row(Graph::Source, source, i);
+    let Asked { source, target, .. } = *asked;
+    let row = i as u64;
+    let e = rows::row(Graph::Source, source.rows, i);
     let t = e[0];
     match t {
-        tag::VAR => matched(var_corr(target, cls, e[1], r), Err(Refusal::VarClass(i as u64))),
+        tag::VAR => matched(var_corr(target.rows, cls, e[1], r), Refusal::VarClass(row)),
         tag::CONST => matched(
-            const_corr(ebits, target, tbits, e, r),
-            Err(Refusal::ConstMismatch(i as u64)),
+            const_corr(source.bits, target.rows, target.bits, e, r),
+            Refusal::ConstMismatch(row),
         ),
         tag::SELECT => matched(
-            chains::select_corr(source, ebits, eside, map, reads, target, ent, cls, e, r),
-            Err(Refusal::ChainMismatch(i as u64)),
+            chains::select_corr(asked, ent, cls, e, r),
+            Refusal::ChainMismatch(row),
         ),
         tag::CALL => matched(
-            applied::call_corr(eside, map, calls, cargs, target, ent, cls, e, r),
-            Err(Refusal::CallMismatch(i as u64)),
+            applied::call_corr(asked, ent, cls, e, r),
+            Refusal::CallMismatch(row),
         ),
-        _ => matched(node_corr(map, target, e, r), Err(Refusal::NodeMismatch(i as u64))),
+        _ => matched(
+            node_corr(asked.map, target.rows, e, r),
+            Refusal::NodeMismatch(row),
+        ),
     }
 }
 
 // Source row i: nothing is asked where it has no image.
-fn ext_step(
-    source: &[u64],
-    ebits: &[u8],
-    eside: &[u64],
-    map: &[u64],
-    reads: &[u64],
-    calls: &[u64],
-    cargs: &[u64],
-    target: &[u64],
-    tbits: &[u8],
-    ent: &[u64],
-    cls: &mut [u64],
-    i: usize,
-) -> Answer
-    requires formed { Formed (source_graph source.now ebits.now eside.now) (target_graph target.now tbits.now) }
-    requires ent_len { (length ent.now ≡ row_count Graph.Target target.now) × (length cls.old ≡ row_count Graph.Target target.now) }
-    requires i_bound { i < row_count Graph.Source source.now }
-    ensures answer { result ≡ row_answer (binding source.now ebits.now eside.now map.now
-        reads.now calls.now cargs.now target.now tbits.now)
+fn ext_step(asked: &Asked, ent: &[u64], cls: &mut [u64], i: usize) -> Answer
+    requires formed { Formed (lowering_of asked.now).source (lowering_of asked.now).target }
+    requires ent_len { (length ent.now ≡ row_count Graph.Target asked.now.target.rows.now) × (length cls.old ≡ row_count Graph.Target asked.now.target.rows.now) }
+    requires i_bound { i < row_count Graph.Source asked.now.source.rows.now }
+    ensures answer { result ≡ row_answer (binding_of (lowering_of asked.now))
         (noted cls.old ent.now) i }
     ensures list { cls.new ≡ cond (is_accepted result) (row_classes
-        (binding source.now ebits.now eside.now map.now
-        reads.now calls.now cargs.now target.now tbits.now)
+        (binding_of (lowering_of asked.now))
         i cls.old) cls.old }
 {
-    let r = images::map_at(map, i as u64);
+    let r = images::map_at(asked.map, i as u64);
     if r == MAX {
         return Ok(());
     }
-    if rows::row_count(Graph::Target, target) as u64 <= r {
+    if rows::row_count(Graph::Target, asked.target.rows) as u64 <= r {
         return Err(Refusal::MapOutOfRange(i as u64));
     }
-    row_corr(
-        source, ebits, eside, map, reads, calls, cargs, target, tbits, ent, cls, i, r as usize,
-    )
+    row_corr(asked, ent, cls, i, r as usize)
 }
 
 // All rows in order, up to the first that is refused.
-pub fn ext_rows(
-    source: &[u64],
-    ebits: &[u8],
-    eside: &[u64],
-    map: &[u64],
-    reads: &[u64],
-    calls: &[u64],
-    cargs: &[u64],
-    target: &[u64],
-    tbits: &[u8],
-    ent: &[u64],
-    cls: &mut [u64],
-) -> Answer
-    requires formed { Formed (source_graph source.now ebits.now eside.now) (target_graph target.now tbits.now) }
-    requires ent_len { (length ent.now ≡ row_count Graph.Target target.now) × (length cls.old ≡ row_count Graph.Target target.now) }
-    ensures answer { result ≡ all_rows_answer (binding source.now ebits.now eside.now map.now
-        reads.now calls.now cargs.now target.now tbits.now)
+pub fn ext_rows(asked: &Asked, ent: &[u64], cls: &mut [u64]) -> Answer
+    requires formed { Formed (lowering_of asked.now).source (lowering_of asked.now).target }
+    requires ent_len { (length ent.now ≡ row_count Graph.Target asked.now.target.rows.now) × (length cls.old ≡ row_count Graph.Target asked.now.target.rows.now) }
+    ensures answer { result ≡ all_rows_answer (binding_of (lowering_of asked.now))
         (noted cls.old ent.now) }
-    ensures list { cls.new ≡ classes_to (binding source.now ebits.now eside.now map.now
-        reads.now calls.now cargs.now target.now tbits.now)
-        cls.old (refused_row (binding source.now ebits.now eside.now map.now
-        reads.now calls.now cargs.now target.now tbits.now)
+    ensures list { cls.new ≡ classes_to (binding_of (lowering_of asked.now))
+        cls.old (refused_row (binding_of (lowering_of asked.now))
         (noted cls.old ent.now)) }
 {
-    let n = rows::row_count(Graph::Source, source);
-    let mut i = 0;
-    while i < n {
-        let a = ext_step(
-            source, ebits, eside, map, reads, calls, cargs, target, tbits, ent, cls, i,
-        );
-        if !answers::is_accepted(a) {
-            return a;
-        }
-        i += 1;
+    for i in 0..rows::row_count(Graph::Source, asked.source.rows) {
+        ext_step(asked, ent, cls, i)?;
     }
     Ok(())
 }

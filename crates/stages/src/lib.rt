@@ -5,85 +5,79 @@ ghost use Rattle.std.specs.Prelude.{◌≡◌, true, length, replicate};
 ghost use Rattle.answers.specs.Answer.{is_accepted};
 ghost use Rattle.rows.specs.declared.Graph.{Graph};
 ghost use Rattle.rows.specs.Row.{row_count};
-ghost use Rattle.sorts.specs.Sorts.{edition, sorts_of};
+ghost use Rattle.sorts.specs.Sorts.{sorts_of};
 ghost use Rattle.sorts.specs.Good.{Good};
 ghost use Rattle.lowering.specs.Tables.{read_count, call_count, read_classes, call_classes, read_offsets, call_offsets};
-ghost use Rattle.lowering.specs.Lowering.{target_graph, entries};
+ghost use Rattle.lowering.specs.Asked.{lowering_of};
+ghost use Rattle.lowering.specs.Lowering.{entries_of};
 ghost use Rattle.lowering.specs.Check.{first_refusal, table_answers, root_answers};
 ghost use Rattle.images.specs.Bits.{ConstsWithin};
 ghost use Rattle.pairs.specs.Walk.{ReadsIn};
 ghost use Rattle.congruence.specs.Calls.{CallsIn, EqsEven};
 
 use answers::{Answer, Refusal};
+use lowering::Asked;
 
 // 5, by the sorts of an edition, and 6; where both tables pass, each entry has marked its variable's class and offset.
-pub fn entries(
-    reads: &[u64],
-    calls: &[u64],
-    cargs: &[u64],
-    second: bool,
-    sorts: &[u64],
-    target: &[u64],
-    ws: &[u64],
-    cls: &mut [u64],
-    ent: &mut [u64],
-) -> Answer
-    requires cls_len { length cls.old ≡ row_count Graph.Target target.now }
-    requires ent_len { length ent.old ≡ row_count Graph.Target target.now }
-    requires good { Good (edition second sorts.now) }
-    ensures answer { result ≡ first_refusal (table_answers (sorts_of (edition second sorts.now)) (entries reads.now
-        calls.now cargs.now) target.now ws.now cls.old) }
+pub fn entries(asked: &Asked, ws: &[u64], cls: &mut [u64], ent: &mut [u64]) -> Answer
+    requires cls_len { length cls.old ≡ row_count Graph.Target asked.now.target.rows.now }
+    requires ent_len { length ent.old ≡ row_count Graph.Target asked.now.target.rows.now }
+    requires good { Good (lowering_of asked.now).edition }
+    ensures answer { result ≡ first_refusal (table_answers (sorts_of (lowering_of asked.now).edition) (entries_of (lowering_of asked.now)) asked.now.target.rows.now ws.now cls.old) }
     ensures classes { is_accepted result ≡ true → cls.new
-        ≡ call_classes calls.now (read_classes reads.now cls.old (read_count reads.now))
-        (call_count calls.now) }
+        ≡ call_classes asked.now.calls.now (read_classes asked.now.reads.now cls.old (read_count asked.now.reads.now))
+        (call_count asked.now.calls.now) }
     ensures offsets { is_accepted result ≡ true → ent.new
-        ≡ call_offsets calls.now (read_offsets reads.now ent.old (read_count reads.now))
-        (call_count calls.now) }
+        ≡ call_offsets asked.now.calls.now (read_offsets asked.now.reads.now ent.old (read_count asked.now.reads.now))
+        (call_count asked.now.calls.now) }
 {
-    let r = tables::read_entries(reads, second, sorts, target, ws, cls, ent);
-    if r < tables::read_count(reads) as u64 {
+    let r = tables::read_entries(asked.reads, asked.sorts, asked.target.rows, ws, cls, ent);
+    if r < tables::read_count(asked.reads) as u64 {
         return Err(Refusal::ReadTable(r));
     }
-    let c = tables::call_entries(calls, cargs, target, ws, cls, ent);
-    if c < tables::call_count(calls) as u64 {
+    let c = tables::call_entries(asked.calls, asked.cargs, asked.target.rows, ws, cls, ent);
+    if c < tables::call_count(asked.calls) as u64 {
         return Err(Refusal::CallTable(c));
     }
     Ok(())
 }
 
 // 12, 13 and 12 for roots left over, where the tables have passed.
-pub fn roots(
-    eroots: &[u64],
-    map: &[u64],
-    reads: &[u64],
-    calls: &[u64],
-    cargs: &[u64],
-    target: &[u64],
-    tbits: &[u8],
-    ws: &[u64],
-    troots: &[u64],
-) -> Answer
-    requires reads_in { ReadsIn reads.now target.now }
-    requires calls_in { CallsIn calls.now cargs.now }
-    requires eqs_even { EqsEven target.now ws.now }
-    requires consts_within { ConstsWithin Graph.Target tbits.now target.now }
-    ensures answer { result ≡ first_refusal (root_answers (entries reads.now calls.now cargs.now)
-        (target_graph target.now tbits.now) ws.now map.now eroots.now
-        troots.now) }
+pub fn roots(asked: &Asked, ws: &[u64]) -> Answer
+    requires reads_in { ReadsIn asked.now.reads.now asked.now.target.rows.now }
+    requires calls_in { CallsIn asked.now.calls.now asked.now.cargs.now }
+    requires eqs_even { EqsEven asked.now.target.rows.now ws.now }
+    requires consts_within { ConstsWithin Graph.Target asked.now.target.bits.now asked.now.target.rows.now }
+    ensures answer { result ≡ first_refusal (root_answers (entries_of (lowering_of asked.now))
+        (lowering_of asked.now).target ws.now asked.now.map.now asked.now.eroots.now
+        asked.now.troots.now) }
 {
-    let lead = leads::ext_roots_corr(eroots, map, troots);
-    if lead < eroots.len() {
+    let lead = leads::ext_roots_corr(asked.eroots, asked.map, asked.troots);
+    if lead < asked.eroots.len() {
         return Err(Refusal::RootMismatch(lead as u64));
     }
-    let a = pairs::array_cong(reads, target, tbits, troots, eroots.len());
+    let a = pairs::array_cong(
+        asked.reads,
+        asked.target.rows,
+        asked.target.bits,
+        asked.troots,
+        asked.eroots.len(),
+    );
     if !a.ok {
         return Err(Refusal::CongruenceMismatch(a.next as u64));
     }
-    let u = congruence::uf_cong(calls, cargs, target, ws, troots, a.next);
+    let u = congruence::uf_cong(
+        asked.calls,
+        asked.cargs,
+        asked.target.rows,
+        ws,
+        asked.troots,
+        a.next,
+    );
     if !u.ok {
         return Err(Refusal::CongruenceMismatch(u.next as u64));
     }
-    if u.next != troots.len() {
+    if u.next != asked.troots.len() {
         return Err(Refusal::RootMismatch(0));
     }
     Ok(())

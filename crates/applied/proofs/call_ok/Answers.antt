@@ -18,16 +18,16 @@ use Rattle.applied.proofs.call_ok.Goals as goal
 use Rattle.applied.proofs.call_ok.Goals.{Else-not-call_class, Else-not-row_is_var, Else-not-within}
 
 -- what each test has said: the image is a Var of the width, of a call's class, its entry lies in the table
-image-var : (c : Else-not-row_is_var) → (let s = c.args in row_is (row_at Target s.target.now s.r) (Var (get_or s.e 2 0)) ≡ true)
+image-var : (c : Else-not-row_is_var) → (let s = c.args in row_is (row_at Target s.asked.now.target.rows.now s.r) (Var (get_or s.e 2 0)) ≡ true)
 image-var c = sym (rw c.row.ensures.row at c.row_is_var.ensures.test) ∙ c.if-not-row_is_var.false
 
 class-call : (c : Else-not-call_class) → either (get_or c.args.cls.now c.args.r 0) 3 5 ≡ true
 class-call c = sym c.call_class.ensures.test ∙ c.if-not-call_class.false
 
-entry_in : (c : Else-not-within) → get_or c.args.ent.now c.args.r 0 + 4 ≤ length c.args.calls.now
+entry_in : (c : Else-not-within) → get_or c.args.ent.now c.args.r 0 + 4 ≤ length c.args.asked.now.calls.now
 entry_in c =
     let s = c.args in
-    within-le (length s.calls.now) (get_or s.ent.now s.r 0) 4 _ c.within.ensures.test (ap not c.if-not-within.false)
+    within-le (length s.asked.now.calls.now) (get_or s.ent.now s.r 0) 4 _ c.within.ensures.test (ap not c.if-not-within.false)
 
 pub returns-then-not-row_is_var : goal.returns-then-not-row_is_var
 unfolding call_matches all
@@ -116,7 +116,7 @@ returns-then-not-within-2 c = record {
 pub args_match-requires : goal.args_match-requires
 args_match-requires c = record {
   args_within = c.requires.args_within;
-  k_in_bounds = within-le (length c.args.cargs.now) _ (get_or c.args.e 4 0) _ c.within-2.ensures.test (ap not c.if-not-within-2.false);
+  k_in_bounds = within-le (length c.args.asked.now.cargs.now) _ (get_or c.args.e 4 0) _ c.within-2.ensures.test (ap not c.if-not-within-2.false);
 }
 
 pub returns : goal.returns

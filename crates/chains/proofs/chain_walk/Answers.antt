@@ -3,6 +3,7 @@ use Prim.Native.Nat.{◌+◌, ◌*◌, ◌-◌}
 use mathlib.Core.Path.{◌∙◌, sym, ap}
 use native.Mathlib.Nat.{add-zero, sub-zero}
 use native.Mathlib.Omega.{arith}
+use Rattle.lowering.specs.Asked.{lowering_of}
 use Rattle.lowering.specs.declared.Walk.{Walk}
 use Rattle.lowering.specs.Lowering.{source_graph}
 use Rattle.lowering.specs.Matching.{walk}
@@ -34,7 +35,7 @@ pair_step-step-requires c = record {
 pub pairs-preserved : goal.pairs-preserved
 pairs-preserved c =
     let s = c.args in
-    let w = along (source_graph s.source.now s.ebits.now s.eside.now) s.map.now s.target.now s.j in
+    let w = along ((lowering_of s.asked.now).source) s.asked.now.map.now s.asked.now.target.rows.now s.j in
     let l = c.pairs in (
       omega arith,
       l.invariant.1 ∙ walk_step _ _ _ _ s.k s.s l.l l.row c.if-k-l.false
@@ -55,7 +56,7 @@ pub returns-in_default : goal.returns-in_default
 returns-in_default c = record {
   stop =
       let s = c.args in
-      let w = along (source_graph s.source.now s.ebits.now s.eside.now) s.map.now s.target.now s.j in
+      let w = along ((lowering_of s.asked.now).source) s.asked.now.map.now s.asked.now.target.rows.now s.j in
       let l = c.pairs in
       sym (l.invariant.1 ∙ walk_step _ _ _ _ s.k s.s l.l l.row c.if-k-l.false
       ∙ ap (λ (z : Walk). onward z (w (s.k - (l.l + 1)) (s.s + 2 * (l.l + 1))))

@@ -7,6 +7,7 @@ use lib.Seq.{length-take-le}
 use Rattle.sorts.specs.Sorts.{edition, plain}
 use Rattle.answers.specs.Answer.{is_accepted}
 use Rattle.rows.specs.declared.Graph.TheVariants.{Source, Target}
+use Rattle.lowering.specs.Asked.{lowering_of}
 use Rattle.lowering.specs.Lowering.{Lowering, SourceGraph, TargetGraph, lowering_in, array_sorts}
 use Rattle.lowering.specs.Check.{first_refusal, count_answers}
 use Rattle.forms.proofs.Form.{widths-front}
@@ -19,12 +20,11 @@ use Rattle.checker.proofs.check.Goals.{Start, Else-not-is_accepted, Else-not-is_
 abbrev input : Start → Lowering
 input c =
     let s = c.args in
-    lowering_in (edition s.second s.sorts.now) s.source.now s.ebits.now s.eside.now s.eroots.now s.map.now s.reads.now
-    s.calls.now s.cargs.now s.target.now s.tbits.now s.troots.now
+    lowering_of s.asked.now
 
 -- the counts pass, and the forms
-counts-pass : (c : Else-not-is_accepted) (S : SourceGraph) (T : TargetGraph) → length S.rows ≡ length c.args.source.now
-    → length T.rows ≡ length c.args.target.now
+counts-pass : (c : Else-not-is_accepted) (S : SourceGraph) (T : TargetGraph) → length S.rows ≡ length c.args.asked.now.source.rows.now
+    → length T.rows ≡ length c.args.asked.now.target.rows.now
     → (let s = c.args in
     is_accepted (first_refusal (count_answers S T (length s.ws0.now) (length s.ws1.now) (length s.cls.now) (length s.ent.now))) ≡ true)
 counts-pass c S T e f =
@@ -96,7 +96,7 @@ lowered-m-requires c =
     record {
       formed = forms-formed s.strict L s.ws0.now s.ws1.now s.cls.now s.ent.now g1;
       ws_value =
-          widths-front plain Target (length s.tbits.now) _ [] s.target.now _ _ c.row_count-n.ensures.count
+          widths-front plain Target (length s.asked.now.target.bits.now) _ [] s.asked.now.target.rows.now _ _ c.row_count-n.ensures.count
           (c.rooted_graphs-g.ensures.target_list ok);
       target_in_bounds = room-2 s.strict L s.ws0.now s.ws1.now s.cls.now s.ent.now c1;
       target_in_bounds_2 = room-3 s.strict L s.ws0.now s.ws1.now s.cls.now s.ent.now c1;
@@ -151,9 +151,9 @@ returns c = record {
       let g1 = rw k.ensures.answer at ok in
       let l = c.lowered-m in
       let m = sym c.is_accepted-3.ensures.test ∙ c.if-not-is_accepted-3.false in
-      by-lists _ _ _ _ _ _ _ _ _ _ (widths-cleared (array_sorts L) Source (length s.ebits.now) _ (length s.ws0.now) s.eside.now
-      s.source.now _ _ _ c.row_count.ensures.count (k.ensures.source_list ok) k.auto.ws0 c.clear_from.ensures.zeros)
-      (widths-cleared plain Target (length s.tbits.now) _ (length s.ws1.now) [] s.target.now _ _ _ c.row_count-n.ensures.count
+      by-lists _ _ _ _ _ _ _ _ _ _ (widths-cleared (array_sorts L) Source (length s.asked.now.source.bits.now) _ (length s.ws0.now) s.asked.now.source.side.now
+      s.asked.now.source.rows.now _ _ _ c.row_count.ensures.count (k.ensures.source_list ok) k.auto.ws0 c.clear_from.ensures.zeros)
+      (widths-cleared plain Target (length s.asked.now.target.bits.now) _ (length s.ws1.now) [] s.asked.now.target.rows.now _ _ _ c.row_count-n.ensures.count
       (k.ensures.target_list ok) k.auto.ws1 c.clear_from-2.ensures.zeros) (l.ensures.class_list m) (l.ensures.entry_list m)
       (accept-done s.strict L s.ws0.now s.ws1.now s.cls.now s.ent.now _ c1 g1 l.ensures.answer m);
 }

@@ -17,16 +17,16 @@ use Rattle.ends.proofs.base_read_ok.Goals as goal
 use Rattle.ends.proofs.base_read_ok.Goals.{Else-not-read_class, Else-not-within, Else-row_count-r}
 
 -- what each test has said: r is a row, of a read's class, its entry lies in the table
-row_in : (c : Else-row_count-r) → ltb c.args.r (row_count Target c.args.target.now) ≡ true
+row_in : (c : Else-row_count-r) → ltb c.args.r (row_count Target c.args.asked.now.target.rows.now) ≡ true
 row_in c = lt-ltb _ _ (rw c.row_count.ensures.count at c.if-row_count-r.false)
 
 class-read : (c : Else-not-read_class) → either (get_or c.args.cls.now c.args.r 0) 2 4 ≡ true
 class-read c = sym c.read_class.ensures.test ∙ c.if-not-read_class.false
 
-entry_in : (c : Else-not-within) → get_or c.args.ent.now c.args.r 0 + 3 ≤ length c.args.reads.now
+entry_in : (c : Else-not-within) → get_or c.args.ent.now c.args.r 0 + 3 ≤ length c.args.asked.now.reads.now
 entry_in c =
     let s = c.args in
-    within-le (length s.reads.now) (get_or s.ent.now s.r 0) 3 _ c.within.ensures.test (ap not c.if-not-within.false)
+    within-le (length s.asked.now.reads.now) (get_or s.ent.now s.r 0) 3 _ c.within.ensures.test (ap not c.if-not-within.false)
 
 pub returns-then-row_count-r : goal.returns-then-row_count-r
 unfolding end_good all

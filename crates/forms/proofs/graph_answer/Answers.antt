@@ -9,6 +9,7 @@ use Rattle.answers.specs.Answer.{is_accepted}
 use Rattle.rows.specs.declared.Graph.TheVariants.{Source, Target}
 use Rattle.rows.specs.Row.{row_count}
 use Rattle.encoding.specs.Encoding.{bad_row, bad_bit}
+use Rattle.lowering.specs.Asked.{lowering_of}
 use Rattle.lowering.specs.Lowering.{SourceGraph, TargetGraph, source_graph, target_graph}
 use Rattle.forms.proofs.Form.{bad-row-le, bad-source, bad-target, bit-source, bit-target, unsorted, ill-source, ill-target, graphs-good}
 use Rattle.forms.proofs.graph_answer.Goals as goal
@@ -16,10 +17,10 @@ use Rattle.forms.proofs.graph_answer.Goals.{Start, Else-row0-row_count, Else-row
 
 -- the two graphs at the start
 abbrev source : Start → SourceGraph
-source c = source_graph c.args.source.now c.args.ebits.now []
+source c = source_graph c.args.asked.now.source.rows.now c.args.asked.now.source.bits.now []
 
 abbrev target : Start → TargetGraph
-target c = target_graph c.args.target.now c.args.tbits.now
+target c = (lowering_of c.args.asked.now).target
 
 pub returns-then-row0-row_count : goal.returns-then-row0-row_count
 returns-then-row0-row_count c = record {
@@ -31,16 +32,16 @@ returns-then-row0-row_count c = record {
 }
 
 -- what each test says: the source's rows are good, the target's rows, the source's bits, the target's bits, the table
-rows-0 : (c : Else-row0-row_count) → (let r = c.args.source.now in row_count Source r ≤ bad_row Source r)
+rows-0 : (c : Else-row0-row_count) → (let r = c.args.asked.now.source.rows.now in row_count Source r ≤ bad_row Source r)
 rows-0 c = rw (c.bad_row-row0.ensures.row, c.row_count.ensures.count) at c.if-row0-row_count.false
 
-rows-1 : (c : Else-row1-row_count) → (let r = c.args.target.now in row_count Target r ≤ bad_row Target r)
+rows-1 : (c : Else-row1-row_count) → (let r = c.args.asked.now.target.rows.now in row_count Target r ≤ bad_row Target r)
 rows-1 c = rw (c.bad_row-row1.ensures.row, c.row_count-2.ensures.count) at c.if-row1-row_count.false
 
-bits-0 : (c : Else-bit0-ebits) → length c.args.ebits.now ≤ bad_bit c.args.ebits.now
+bits-0 : (c : Else-bit0-ebits) → length c.args.asked.now.source.bits.now ≤ bad_bit c.args.asked.now.source.bits.now
 bits-0 c = rw c.bad_bit-bit0.ensures.position at c.if-bit0-ebits.false
 
-bits-1 : (c : Else-bit1-tbits) → length c.args.tbits.now ≤ bad_bit c.args.tbits.now
+bits-1 : (c : Else-bit1-tbits) → length c.args.asked.now.target.bits.now ≤ bad_bit c.args.asked.now.target.bits.now
 bits-1 c = rw c.bad_bit-bit1.ensures.position at c.if-bit1-tbits.false
 
 sorted : (c : Else-not-is_accepted) → is_accepted c.args.sort ≡ true
@@ -85,7 +86,7 @@ pub returns-then-stop0-row0 : goal.returns-then-stop0-row0
 returns-then-stop0-row0 c = record {
   answer =
       let t = goal.at.returns-then-stop0-row0 c in
-      let l = bad-row-le Source c.args.source.now in
+      let l = bad-row-le Source c.args.asked.now.source.rows.now in
       let h = rw c.bad_row-row0.ensures.row at c.if-stop0-row0.true in
       sym (ill-source c.args.sort (source t.Start) (target t.Start) _ _ (rows-0 t.Else-row0-row_count) (rows-1 t.Else-row1-row_count)
       (bits-0 t.Else-bit0-ebits) (bits-1 t.Else-bit1-tbits) (sorted t.Else-not-is_accepted) (omega arith));
@@ -95,7 +96,7 @@ pub returns-then-stop1-row1 : goal.returns-then-stop1-row1
 returns-then-stop1-row1 c = record {
   answer =
       let t = goal.at.returns-then-stop1-row1 c in
-      let l = bad-row-le Target c.args.target.now in
+      let l = bad-row-le Target c.args.asked.now.target.rows.now in
       let h = rw c.bad_row-row1.ensures.row at c.if-stop1-row1.true in
       let e = rw c.bad_row-row0.ensures.row at c.if-stop0-row0.false in
       let f = rows-0 t.Else-row0-row_count in
@@ -108,7 +109,7 @@ pub returns : goal.returns
 returns c = record {
   answer =
       let t = goal.at.returns c in
-      let l = bad-row-le Target c.args.target.now in
+      let l = bad-row-le Target c.args.asked.now.target.rows.now in
       let h = rw c.bad_row-row1.ensures.row at c.if-stop1-row1.false in
       let e = rw c.bad_row-row0.ensures.row at c.if-stop0-row0.false in
       let f = rows-0 t.Else-row0-row_count in

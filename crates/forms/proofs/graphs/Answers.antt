@@ -9,11 +9,12 @@ use lib.ListN.{length}
 use Rattle.answers.specs.Answer.{Answer}
 use Rattle.answers.specs.Answer.{is_accepted}
 use Rattle.lists.proofs.Choice.{no_way}
-use Rattle.sorts.specs.Sorts.{Edition, edition, plain, sorts_of, sort_answer}
+use Rattle.sorts.specs.Sorts.{Edition, edition_given, plain, sorts_of, sort_answer}
 use Rattle.rows.specs.declared.Graph.TheVariants.{Source, Target}
 use Rattle.rows.specs.Row.{row_count}
 use Rattle.wf.proofs.Stop.{stop-good}
 use Rattle.wf.specs.Pass.{stop_row}
+use Rattle.lowering.specs.Asked.{lowering_of}
 use Rattle.lowering.specs.Lowering.{SourceGraph, TargetGraph, source_graph, target_graph}
 use Rattle.lowering.specs.Check.{first_refusal, graph_answers, source_ill, target_ill}
 use Rattle.forms.proofs.Form.{stop_le, graphs-stop, source-settles, sort-settles, table-good, no-stop-source, no-stop-target, widths-all}
@@ -22,13 +23,13 @@ use Rattle.forms.proofs.graphs.Goals.{Start, After-sort_answer-sort, Then-not-is
 
 -- the edition and the graphs where the function was entered
 abbrev of : Start → Edition
-of c = edition c.args.second c.args.sorts.now
+of c = edition_given c.args.asked.now.sorts
 
 abbrev source : Start → SourceGraph
-source c = source_graph c.args.source.now c.args.ebits.now c.args.eside.now
+source c = (lowering_of c.args.asked.now).source
 
 abbrev target : Start → TargetGraph
-target c = target_graph c.args.target.now c.args.tbits.now
+target c = (lowering_of c.args.asked.now).target
 
 pub graph_answer-requires : goal.graph_answer-requires
 graph_answer-requires c = record {
@@ -39,10 +40,10 @@ graph_answer-requires c = record {
 }
 
 -- the table is refused, and nothing is accepted; the table is good
-no : (c : Then-not-is_accepted) → is_accepted (sort_answer (edition c.args.second c.args.sorts.now)) ≡ false
+no : (c : Then-not-is_accepted) → is_accepted (sort_answer (edition_given c.args.asked.now.sorts)) ≡ false
 no c = sym (rw c.sort_answer-sort.ensures.answer at c.is_accepted.ensures.test) ∙ c.if-not-is_accepted.true
 
-yes : (c : Else-not-is_accepted) → is_accepted (sort_answer (edition c.args.second c.args.sorts.now)) ≡ true
+yes : (c : Else-not-is_accepted) → is_accepted (sort_answer (edition_given c.args.asked.now.sorts)) ≡ true
 yes c = sym (rw c.sort_answer-sort.ensures.answer at c.is_accepted.ensures.test) ∙ c.if-not-is_accepted.false
 
 unsorted : {P : Type 0} (sort : Answer) (S : SourceGraph) (T : TargetGraph) (x y : ℕ) → is_accepted sort ≡ false
@@ -52,7 +53,7 @@ unsorted sort S T x y n accepts = no_way (sym (table-good sort S T x y accepts) 
 -- what graph_answer told, with the table's answer
 told : (c : After-sort_answer-sort) (S : SourceGraph) (T : TargetGraph) (r : Answer) (x y : ℕ)
     → r ≡ first_refusal (graph_answers c.sort_answer-sort.result S T x y)
-    → r ≡ first_refusal (graph_answers (sort_answer (edition c.args.second c.args.sorts.now)) S T x y)
+    → r ≡ first_refusal (graph_answers (sort_answer (edition_given c.args.asked.now.sorts)) S T x y)
 told c S T r x y e = e ∙ ap (λ (a : Answer). first_refusal (graph_answers a S T x y)) c.sort_answer-sort.ensures.answer
 
 pub returns-then-not-is_accepted : goal.returns-then-not-is_accepted
@@ -80,10 +81,10 @@ graph_answer-requires-then-stop0-row_count c =
     let s = c.args in
     let x = c.graph_wf-stop0.ensures.row in
     let σ = sorts_of (of (goal.at.graph_answer-requires-then-stop0-row_count c).Start) in
-    let e = length s.ebits.now in
+    let e = length s.asked.now.source.bits.now in
     record {
-      stop0_bound = rw x (stop_le σ Source e s.eside.now s.source.now);
-      by_index = λ j h. stop-good σ Source e s.eside.now s.source.now j (rw x at h);
+      stop0_bound = rw x (stop_le σ Source e s.asked.now.source.side.now s.asked.now.source.rows.now);
+      by_index = λ j h. stop-good σ Source e s.asked.now.source.side.now s.asked.now.source.rows.now j (rw x at h);
       stop1_bound = omega arith;
       by_index_2 = λ j h. absurd (omega arith);
     }
@@ -115,13 +116,13 @@ graph_answer-requires-2 c =
     let x = c.graph_wf-stop0.ensures.row in
     let y = c.graph_wf-stop1.ensures.row in
     let σ = sorts_of (of (goal.at.graph_answer-requires-2 c).Start) in
-    let e = length s.ebits.now in
-    let t = length s.tbits.now in
+    let e = length s.asked.now.source.bits.now in
+    let t = length s.asked.now.target.bits.now in
     record {
-      stop0_bound = rw x (stop_le σ Source e s.eside.now s.source.now);
-      by_index = λ j h. stop-good σ Source e s.eside.now s.source.now j (rw x at h);
-      stop1_bound = rw y (stop_le plain Target t [] s.target.now);
-      by_index_2 = λ j h. stop-good plain Target t [] s.target.now j (rw y at h);
+      stop0_bound = rw x (stop_le σ Source e s.asked.now.source.side.now s.asked.now.source.rows.now);
+      by_index = λ j h. stop-good σ Source e s.asked.now.source.side.now s.asked.now.source.rows.now j (rw x at h);
+      stop1_bound = rw y (stop_le plain Target t [] s.asked.now.target.rows.now);
+      by_index_2 = λ j h. stop-good plain Target t [] s.asked.now.target.rows.now j (rw y at h);
     }
 
 pub returns : goal.returns

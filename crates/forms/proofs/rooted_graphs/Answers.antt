@@ -4,8 +4,9 @@ use mathlib.Core.Bool.{true}
 use mathlib.Core.List.{[]}
 use lib.ListN.{length}
 use Rattle.answers.specs.Answer.{is_accepted}
-use Rattle.sorts.specs.Sorts.{Edition, edition, plain, sorts_of}
+use Rattle.sorts.specs.Sorts.{Edition, edition_given, plain, sorts_of}
 use Rattle.rows.specs.declared.Graph.TheVariants.{Source, Target}
+use Rattle.lowering.specs.Asked.{lowering_of}
 use Rattle.lowering.specs.Lowering.{SourceGraph, TargetGraph, source_graph, target_graph}
 use Rattle.forms.proofs.Form.{widths-front, graphs-refused, roots-asked}
 use Rattle.forms.proofs.rooted_graphs.Goals as goal
@@ -13,13 +14,13 @@ use Rattle.forms.proofs.rooted_graphs.Goals.{Start}
 
 -- the edition and the two graphs at the start
 abbrev of : Start → Edition
-of c = edition c.args.second c.args.sorts.now
+of c = edition_given c.args.asked.now.sorts
 
 abbrev source : Start → SourceGraph
-source c = source_graph c.args.source.now c.args.ebits.now c.args.eside.now
+source c = (lowering_of c.args.asked.now).source
 
 abbrev target : Start → TargetGraph
-target c = target_graph c.args.target.now c.args.tbits.now
+target c = (lowering_of c.args.asked.now).target
 
 pub returns-then-not-is_accepted : goal.returns-then-not-is_accepted
 returns-then-not-is_accepted c =
@@ -27,7 +28,7 @@ returns-then-not-is_accepted c =
     let g = c.graphs-g.ensures in
     record {
       answer =
-          graphs-refused c.args.strict (of start) (source start) (target start) c.args.eroots.now c.args.troots.now _ g.answer
+          graphs-refused c.args.strict (of start) (source start) (target start) c.args.asked.now.eroots.now c.args.asked.now.troots.now _ g.answer
           (sym c.is_accepted.ensures.test ∙ c.if-not-is_accepted.true);
       source_list = g.source_list;
       target_list = g.target_list;
@@ -40,12 +41,12 @@ returns c =
     let g = c.graphs-g.ensures in
     let ok : is_accepted c.graphs-g.result ≡ true = sym c.is_accepted.ensures.test ∙ c.if-not-is_accepted.false in
     let ws0 =
-    widths-front (sorts_of (of start)) Source (length s.ebits.now) _ s.eside.now s.source.now _ _ c.row_count-n.ensures.count
+    widths-front (sorts_of (of start)) Source (length s.asked.now.source.bits.now) _ s.asked.now.source.side.now s.asked.now.source.rows.now _ _ c.row_count-n.ensures.count
     (g.source_list ok) in
-    let ws1 = widths-front plain Target (length s.tbits.now) _ [] s.target.now _ _ c.row_count-m.ensures.count (g.target_list ok) in
+    let ws1 = widths-front plain Target (length s.asked.now.target.bits.now) _ [] s.asked.now.target.rows.now _ _ c.row_count-m.ensures.count (g.target_list ok) in
     record {
       answer =
-          roots-asked s.strict (of start) (source start) (target start) s.eroots.now s.troots.now _ g.answer ok _ _ _
+          roots-asked s.strict (of start) (source start) (target start) s.asked.now.eroots.now s.asked.now.troots.now _ g.answer ok _ _ _
           c.root_answer.ensures.answer ws0 ws1;
       source_list = λ h. g.source_list ok;
       target_list = λ h. g.target_list ok;

@@ -11,6 +11,7 @@ use Rattle.lists.proofs.Choice.{no_way}
 use Rattle.rows.specs.declared.Graph.TheVariants.{Source, Target}
 use Rattle.rows.specs.Row.{row_count}
 use Rattle.answers.specs.Answer.{is_accepted}
+use Rattle.lowering.specs.Asked.{lowering_of}
 use Rattle.lowering.specs.Lowering.{Lowering, lowering_in}
 use Rattle.lowered.proofs.MatchLaws.{map-3, tables-done, rows-done, dead-done, roots-done, passed-tables, reads-inside, calls-inside}
 use Rattle.wf.specs.Widths.{widths}
@@ -21,11 +22,10 @@ use Rattle.lowered.proofs.matches.Goals.{Start, After-entries-t, Else-not-is_acc
 abbrev input : Start → Lowering
 input c =
     let s = c.args in
-    lowering_in (edition s.second s.sorts.now) s.source.now s.ebits.now s.eside.now s.eroots.now s.map.now s.reads.now
-    s.calls.now s.cargs.now s.target.now s.tbits.now s.troots.now
+    lowering_of s.asked.now
 
 -- the map has a word for each row; the tables have passed
-map-fits : (c : After-entries-t) → length c.args.map.now ≡ row_count Source c.args.source.now
+map-fits : (c : After-entries-t) → length c.args.asked.now.map.now ≡ row_count Source c.args.asked.now.source.rows.now
 map-fits c = c.if-map-n.false ∙ c.row_count-n.ensures.count
 
 tables-accepted : (c : Else-not-is_accepted) → is_accepted c.entries-t.result ≡ true
@@ -101,12 +101,12 @@ roots-requires c =
     let b =
     passed-tables L _ _ _ p.ws_value p.cls_value p.ent_value _ _ _ e.answer e.classes e.offsets (map-fits t.After-entries-t)
     (tables-accepted t.Else-not-is_accepted) in
-    let ws = widths plain Target (length s.tbits.now) [] s.target.now in
+    let ws = widths plain Target (length s.asked.now.target.bits.now) [] s.asked.now.target.rows.now in
     record {
       reads_in = reads-inside L b;
       calls_in = calls-inside L b;
-      eqs_even = rw p.ws_value (eqs-even (length s.tbits.now) s.target.now ws p.formed.target-formed);
-      consts_within = bits-within Target s.tbits.now [] s.target.now ws p.formed.target-formed;
+      eqs_even = rw p.ws_value (eqs-even (length s.asked.now.target.bits.now) s.asked.now.target.rows.now ws p.formed.target-formed);
+      consts_within = bits-within Target s.asked.now.target.bits.now [] s.asked.now.target.rows.now ws p.formed.target-formed;
     }
 
 pub returns : goal.returns

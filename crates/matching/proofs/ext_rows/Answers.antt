@@ -3,7 +3,8 @@ use mathlib.Core.Path.{refl, ◌∙◌, ap}
 use mathlib.Core.Bool.{not}
 use native.Mathlib.Nat.{not-suc-le-zero}
 use native.Mathlib.Omega.{arith}
-use Rattle.lowering.specs.Lowering.{Binding, binding}
+use Rattle.lowering.specs.Asked.{lowering_of}
+use Rattle.lowering.specs.Lowering.{Binding, binding_of}
 use Rattle.lowering.specs.Matching.{Noted, noted}
 use Rattle.matching.proofs.Loop.{rows_start, rows-stop, rows_more, rows_end}
 use Rattle.matching.proofs.ext_rows.Goals as goal
@@ -12,7 +13,7 @@ use Rattle.matching.proofs.ext_rows.Goals.{After-row_count-n}
 abbrev asked : After-row_count-n → Binding
 asked c =
     let s = c.args in
-    binding s.source.now s.ebits.now s.eside.now s.map.now s.reads.now s.calls.now s.cargs.now s.target.now s.tbits.now
+    binding_of (lowering_of s.asked.now)
 
 abbrev known : After-row_count-n → Noted
 known c = let s = c.args in noted s.cls.now s.ent.now

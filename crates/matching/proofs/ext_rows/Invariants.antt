@@ -3,7 +3,8 @@ use Prim.Native.Nat.{ℕ, ◌≤◌, ◌<◌, ◌-◌}
 use mathlib.Core.Path.{◌≡◌}
 use mathlib.Core.Bool.{false}
 use lib.ListN.{length}
-use Rattle.lowering.specs.Lowering.{binding}
+use Rattle.lowering.specs.Asked.{lowering_of}
+use Rattle.lowering.specs.Lowering.{binding_of}
 use Rattle.lowering.specs.Matching.{noted}
 use Rattle.matching.proofs.Loop.{before, refused}
 use Rattle.matching.proofs.ext_rows.Given as goal
@@ -11,8 +12,8 @@ use Rattle.matching.proofs.ext_rows.Given as goal
 abbrev pub invariant-loop-i : goal.invariant-loop-i
 invariant-loop-i l =
     (l.i ≤ l.n) × (length l.cls ≡ length l.initial.cls)
-    × (l.cls ≡ before (binding l.source l.ebits l.eside l.map l.reads l.calls l.cargs l.target l.tbits) (noted l.initial.cls l.ent) l.i) ×
-    ((j : ℕ) → j < l.i → refused (binding l.source l.ebits l.eside l.map l.reads l.calls l.cargs l.target l.tbits) (noted l.initial.cls l.ent) j ≡
+    × (l.cls ≡ before (binding_of (lowering_of l.asked)) (noted l.initial.cls l.ent) l.i) ×
+    ((j : ℕ) → j < l.i → refused (binding_of (lowering_of l.asked)) (noted l.initial.cls l.ent) j ≡
     false)
 
 abbrev pub decreases-loop-i : goal.decreases-loop-i

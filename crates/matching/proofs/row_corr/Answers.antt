@@ -3,7 +3,8 @@ use mathlib.Core.Path.{refl, sym}
 use native.Mathlib.Omega.{arith}
 use Rattle.answers.specs.Answer.{VarClass, ConstMismatch, NodeMismatch, ChainMismatch, CallMismatch}
 use Rattle.lists.proofs.Choice.{cond_same}
-use Rattle.lowering.specs.Lowering.{Binding, binding}
+use Rattle.lowering.specs.Asked.{lowering_of}
+use Rattle.lowering.specs.Lowering.{Binding, binding_of}
 use Rattle.lowering.specs.Matching.{Noted, noted}
 use Rattle.matching.proofs.Rows.{var-answer, var-classes, const-answer, const-classes, select-answer, select-classes, call-answer}
 use Rattle.matching.proofs.Rows.{call-classes, plain-answer, plain-classes}
@@ -14,7 +15,7 @@ use Rattle.matching.proofs.row_corr.Goals.{After-row-e}
 abbrev asked : After-row-e → Binding
 asked c =
     let s = c.args in
-    binding s.source.now s.ebits.now s.eside.now s.map.now s.reads.now s.calls.now s.cargs.now s.target.now s.tbits.now
+    binding_of (lowering_of s.asked.now)
 
 abbrev known : After-row-e → Noted
 known c = let s = c.args in noted s.cls.now s.ent.now
