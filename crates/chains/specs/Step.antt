@@ -13,14 +13,16 @@ use Rattle.lowering.specs.Matching.{is_level}
 abbrev pub level_step : List ℕ → ℕ → ℕ → ℕ → ℕ → Walk
 level_step target a b v r = cond (is_level target a b v r) (RanOut (field_at target r 3)) Lost
 
--- the pair at s of the side list from row r on, where the select index is row q with image b: a walk of one pair
-abbrev pub pair_step : SourceGraph → List ℕ → List ℕ → List ℕ → ℕ → ℕ → ℕ → Walk
-pair_step S map target q b s r =
-    let p = get_or S.side s 0 in
-    let v = get_or S.side (s + 1) 0 in
+-- a pair with index row p and value row v from row r on, where the select index is row q with image b: a walk of one pair
+abbrev pub pair_walk : SourceGraph → List ℕ → List ℕ → List ℕ → ℕ → ℕ → ℕ → ℕ → Walk
+pair_walk S map target q b p v r =
     cond (both_const (row_at Source S.rows p) q)
     (cond (same_const S.bits (row_at Source S.rows p) S.bits q) (Met r v) (RanOut r))
     (level_step target (map_at map p) b (map_at map v) r)
+
+-- the pair at s of the side list
+abbrev pub pair_step : SourceGraph → List ℕ → List ℕ → List ℕ → ℕ → ℕ → ℕ → Walk
+pair_step S map target q b s r = pair_walk S map target q b (get_or S.side s 0) (get_or S.side (s + 1) 0) r
 
 -- the walk after a step: it goes on, or the step has ended it
 abbrev pub onward : Walk → (ℕ → Walk) → Walk

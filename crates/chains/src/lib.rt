@@ -8,7 +8,7 @@ ghost use Rattle.lowering.specs.Matching.{walk, noted, end_good, end_classes};
 ghost use Rattle.rows.specs.declared.Graph.{Graph};
 ghost use Rattle.rows.specs.Row.{row_count};
 ghost use Rattle.chains.specs.Ready.{PairsWithin};
-ghost use Rattle.chains.specs.Step.{level_step, pair_step};
+ghost use Rattle.chains.specs.Step.{level_step, pair_walk};
 
 use lowering::{Asked, Source, Walk};
 use rows::{Graph, tag};
@@ -33,16 +33,14 @@ fn level(target: &[u64], a: u64, b: u64, v: u64, r: u64) -> Walk
     Walk::RanOut(d[3])
 }
 
-// The pair at s, where the select index is row q with image b.
-fn pair_step(asked: &Asked, q: [u64; 5], b: u64, s: usize, r: u64) -> Walk
-    requires s_in_bounds { (s + 1 < length asked.now.source.side.now) × (get_or asked.now.source.side.now s 0 < row_count Graph.Source asked.now.source.rows.now) }
+// A pair of index row p and value row v, where the select index is row q with image b.
+fn pair_step(asked: &Asked, q: [u64; 5], b: u64, p: u64, v: u64, r: u64) -> Walk
+    requires p_bound { p < row_count Graph.Source asked.now.source.rows.now }
     requires consts_within { ConstsWithin Graph.Source asked.now.source.bits.now asked.now.source.rows.now × BitsWithin asked.now.source.bits.now q }
-    ensures step { result ≡ pair_step (lowering_of asked.now).source
-        asked.now.map.now asked.now.target.rows.now q b s r }
+    ensures step { result ≡ pair_walk (lowering_of asked.now).source
+        asked.now.map.now asked.now.target.rows.now q b p v r }
 {
-    let Source { rows, bits, side } = asked.source;
-    let p = side[s];
-    let v = side[s + 1];
+    let Source { rows, bits, .. } = asked.source;
     let e = rows::row(Graph::Source, rows, p as usize);
     if !images::both_const(e, q) {
         return level(
@@ -70,11 +68,13 @@ fn chain_walk(asked: &Asked, j: u64, k: u64, s: u64, r: u64) -> Walk
     if k == 0 {
         return Walk::RanOut(r);
     }
-    let q = rows::row(Graph::Source, asked.source.rows, j as usize);
+    let Source { rows, side, .. } = asked.source;
+    let q = rows::row(Graph::Source, rows, j as usize);
     let b = images::map_at(asked.map, j);
     let mut row = r;
     for l in 0..k {
-        let step = pair_step(asked, q, b, (s + 2 * l) as usize, row);
+        let at = (s + 2 * l) as usize;
+        let step = pair_step(asked, q, b, side[at], side[at + 1], row);
         let Walk::RanOut(next) = step else {
             return step;
         };

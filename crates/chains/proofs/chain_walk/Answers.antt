@@ -15,41 +15,39 @@ pub returns-then-k-eq0 : goal.returns-then-k-eq0
 unfolding walk
 returns-then-k-eq0 c = record { stop = rw c.if-k-eq0.true }
 
-pub pairs-init : goal.pairs-init
-pairs-init c = (omega arith, rw (add-zero, sub-zero))
+pub loop-l-init : goal.loop-l-init
+loop-l-init c = rw (add-zero, sub-zero)
 
 pub overflow_mul-at : goal.overflow_mul-at
 overflow_mul-at c =
-    let h = c.requires.pairs_within _ c.if-k-l.false in omega (arith, h.0)
+    let h = c.requires.pairs_within _ c.loop-l-test.true in omega (arith, h.0)
 
 pub overflow_add-at : goal.overflow_add-at
 overflow_add-at c =
-    let h = c.requires.pairs_within _ c.if-k-l.false in omega (arith, h.0)
+    let h = c.requires.pairs_within _ c.loop-l-test.true in omega (arith, h.0)
 
 pub pair_step-step-requires : goal.pair_step-step-requires
 pair_step-step-requires c = record {
-  s_in_bounds = let p = c.requires in p.pairs_within _ c.if-k-l.false;
+  p_bound = let p = c.requires in (p.pairs_within _ c.loop-l-test.true).1;
   consts_within = let p = c.requires in (p.consts_within, rw c.row-q.ensures.row (p.consts_within _ p.j_bound));
 }
 
-pub pairs-preserved : goal.pairs-preserved
-pairs-preserved c =
+pub loop-l-preserved : goal.loop-l-preserved
+loop-l-preserved c =
     let s = c.args in
     let w = along ((lowering_of s.asked.now).source) s.asked.now.map.now s.asked.now.target.rows.now s.j in
-    let l = c.pairs in (
-      omega arith,
-      l.invariant.1 ∙ walk_step _ _ _ _ s.k s.s l.l l.row c.if-k-l.false
+    let l = c.loop-l in
+    l.invariant ∙ walk_step _ _ _ _ s.k s.s l.l l.row c.loop-l-test.true
           ∙ ap (λ (z : Walk). onward z (w (s.k - (l.l + 1)) (s.s + 2 * (l.l + 1))))
           (sym (rw (c.row-q.ensures.row, c.map_at-b.ensures.row) at c.pair_step-step.ensures.step)
-          ∙ c.in-RanOut.is),
-    )
+          ∙ c.in-RanOut.is)
 
-pub returns-then-k-l : goal.returns-then-k-l
-returns-then-k-l c = record {
+pub returns : goal.returns
+returns c = record {
   stop =
       let s = c.args in
-      let l = c.pairs in
-      sym (l.invariant.1 ∙ walk_end _ _ _ _ s.k s.s l.l l.row c.if-k-l.true);
+      let l = c.loop-l in
+      sym (l.invariant ∙ walk_end _ _ _ _ s.k s.s l.l l.row c.loop-l-test.false);
 }
 
 pub returns-in_default : goal.returns-in_default
@@ -57,8 +55,8 @@ returns-in_default c = record {
   stop =
       let s = c.args in
       let w = along ((lowering_of s.asked.now).source) s.asked.now.map.now s.asked.now.target.rows.now s.j in
-      let l = c.pairs in
-      sym (l.invariant.1 ∙ walk_step _ _ _ _ s.k s.s l.l l.row c.if-k-l.false
+      let l = c.loop-l in
+      sym (l.invariant ∙ walk_step _ _ _ _ s.k s.s l.l l.row c.loop-l-test.true
       ∙ ap (λ (z : Walk). onward z (w (s.k - (l.l + 1)) (s.s + 2 * (l.l + 1))))
       (sym (rw (c.row-q.ensures.row, c.map_at-b.ensures.row) at c.pair_step-step.ensures.step))
       ∙ onward-stays _ _ c.in_default.not-RanOut);

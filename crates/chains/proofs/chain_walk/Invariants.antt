@@ -6,10 +6,9 @@ use Rattle.lowering.specs.Lowering.{source_graph}
 use Rattle.lowering.specs.Matching.{walk}
 use Rattle.chains.proofs.chain_walk.Given as goal
 
-abbrev pub invariant-pairs : goal.invariant-pairs
-invariant-pairs l =
-    (l.l ≤ l.k) × (walk ((lowering_of l.asked).source) l.asked.map.now l.asked.target.rows.now l.j l.k l.s l.r ≡ walk ((lowering_of l.asked).source) l.asked.map.now
-    l.asked.target.rows.now l.j (l.k - l.l) (l.s + 2 * l.l) l.row)
-
-abbrev pub decreases-pairs : goal.decreases-pairs
-decreases-pairs l = l.k - l.l
+abbrev pub invariant-loop-l : goal.invariant-loop-l
+invariant-loop-l l =
+    let S = (lowering_of l.asked).source in
+    let map = l.asked.map.now in
+    let target = l.asked.target.rows.now in
+    walk S map target l.j l.k l.s l.r ≡ walk S map target l.j (l.k - l.l) (l.s + 2 * l.l) l.row

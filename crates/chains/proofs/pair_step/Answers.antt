@@ -12,7 +12,7 @@ returns-then-not-both_const c = record {
 pub same_bits-requires : goal.same_bits-requires
 same_bits-requires c =
     let p = c.requires in
-    (rw c.row-e.ensures.row (p.consts_within.0 _ p.s_in_bounds.1), p.consts_within.1, sym c.both_const.ensures.test ∙ c.if-not-both_const.false)
+    (rw c.row-e.ensures.row (p.consts_within.0 _ p.p_bound), p.consts_within.1, sym c.both_const.ensures.test ∙ c.if-not-both_const.false)
 
 pub returns-then-same_bits : goal.returns-then-same_bits
 returns-then-same_bits c = record {
