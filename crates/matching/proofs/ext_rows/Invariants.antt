@@ -11,10 +11,6 @@ use Rattle.matching.proofs.ext_rows.Given as goal
 
 abbrev pub invariant-loop-i : goal.invariant-loop-i
 invariant-loop-i l =
-    (l.i ≤ l.n) × (length l.cls ≡ length l.initial.cls)
-    × (l.cls ≡ before (binding_of (lowering_of l.asked)) (noted l.initial.cls l.ent) l.i) ×
-    ((j : ℕ) → j < l.i → refused (binding_of (lowering_of l.asked)) (noted l.initial.cls l.ent) j ≡
-    false)
-
-abbrev pub decreases-loop-i : goal.decreases-loop-i
-decreases-loop-i l = l.n - l.i
+    let B = binding_of (lowering_of l.asked) in
+    let first = noted l.initial.cls l.ent in
+    (length l.cls ≡ length l.initial.cls) × (l.cls ≡ before B first l.i) × ((j : ℕ) → j < l.i → refused B first j ≡ false)
