@@ -52,16 +52,17 @@ pub fn roots(asked: &Asked, ws: &[u64]) -> Answer
         (lowering_of asked.now).target ws.now asked.now.map.now asked.now.eroots.now
         asked.now.troots.now) }
 {
-    let lead = leads::ext_roots_corr(asked.eroots, asked.map, asked.troots);
-    if lead < asked.eroots.len() {
+    let Asked { eroots, troots, .. } = *asked;
+    let lead = leads::ext_roots_corr(eroots, asked.map, troots);
+    if lead < eroots.len() {
         return Err(Refusal::RootMismatch(lead as u64));
     }
     let a = pairs::array_cong(
         asked.reads,
         asked.target.rows,
         asked.target.bits,
-        asked.troots,
-        asked.eroots.len(),
+        troots,
+        eroots.len(),
     );
     if !a.ok {
         return Err(Refusal::CongruenceMismatch(a.next as u64));
@@ -71,13 +72,13 @@ pub fn roots(asked: &Asked, ws: &[u64]) -> Answer
         asked.cargs,
         asked.target.rows,
         ws,
-        asked.troots,
+        troots,
         a.next,
     );
     if !u.ok {
         return Err(Refusal::CongruenceMismatch(u.next as u64));
     }
-    if u.next != asked.troots.len() {
+    if u.next != troots.len() {
         return Err(Refusal::RootMismatch(0));
     }
     Ok(())

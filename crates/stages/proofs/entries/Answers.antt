@@ -6,7 +6,7 @@ use Rattle.answers.specs.Answer.{ReadTable, CallTable}
 use Rattle.lists.proofs.Choice.{no_way}
 use Rattle.lowering.specs.Asked.{lowering_of}
 use Rattle.lowering.specs.Tables.{read_count, bad_read}
-use Rattle.lowering.specs.Lowering.{entries}
+use Rattle.lowering.specs.Lowering.{entries_of}
 use Rattle.stages.proofs.TableLaws.{all-reads, all-calls, read-5, call-6, tables-good}
 use Rattle.stages.proofs.entries.Goals as goal
 
