@@ -60,20 +60,21 @@ fn graph_answer(sort: Answer, asked: &Asked, stop0: usize, stop1: usize) -> Answ
     ensures answer { result ≡ first_refusal (graph_answers sort (source_graph asked.now.source.rows.now asked.now.source.bits.now [])
         (lowering_of asked.now).target stop0 stop1) }
 {
-    let row0 = encoding::bad_row(Graph::Source, asked.source.rows, stop0);
-    if row0 < rows::row_count(Graph::Source, asked.source.rows) {
+    let Asked { source, target, .. } = *asked;
+    let row0 = encoding::bad_row(Graph::Source, source.rows, stop0);
+    if row0 < rows::row_count(Graph::Source, source.rows) {
         return Err(Refusal::BadRow(row0 as u64, 1));
     }
-    let row1 = encoding::bad_row(Graph::Target, asked.target.rows, stop1);
-    if row1 < rows::row_count(Graph::Target, asked.target.rows) {
+    let row1 = encoding::bad_row(Graph::Target, target.rows, stop1);
+    if row1 < rows::row_count(Graph::Target, target.rows) {
         return Err(Refusal::BadRow(row1 as u64, 2));
     }
-    let bit0 = encoding::bad_bit(asked.source.bits);
-    if bit0 < asked.source.bits.len() {
+    let bit0 = encoding::bad_bit(source.bits);
+    if bit0 < source.bits.len() {
         return Err(Refusal::BadBit(bit0 as u64, 1));
     }
-    let bit1 = encoding::bad_bit(asked.target.bits);
-    if bit1 < asked.target.bits.len() {
+    let bit1 = encoding::bad_bit(target.bits);
+    if bit1 < target.bits.len() {
         return Err(Refusal::BadBit(bit1 as u64, 2));
     }
     sort?;

@@ -2,7 +2,7 @@
 -- Assumes nothing.
 use Prim.Native.Nat.{ℕ, ◌<◌}
 use mathlib.Core.Path.{◌≡◌, sym, ap, ◌∙◌}
-use mathlib.Core.Bool.{true, false}
+use mathlib.Core.Bool.{not, true, false}
 use mathlib.Core.List.{[]}
 use native.Mathlib.Omega.{arith}
 use lib.ListN.{length}
@@ -19,7 +19,7 @@ use Rattle.lowering.specs.Lowering.{SourceGraph, TargetGraph, source_graph, targ
 use Rattle.lowering.specs.Check.{first_refusal, graph_answers, source_ill, target_ill}
 use Rattle.forms.proofs.Form.{stop_le, graphs-stop, source-settles, sort-settles, table-good, no-stop-source, no-stop-target, widths-all}
 use Rattle.forms.proofs.graphs.Goals as goal
-use Rattle.forms.proofs.graphs.Goals.{Start, After-sort_answer-sort, Then-not-is_accepted, Else-not-is_accepted}
+use Rattle.forms.proofs.graphs.Goals.{Start, After-sort_answer-sort, Then-is_err, Else-is_err}
 
 -- the edition and the graphs where the function was entered
 abbrev of : Start → Edition
@@ -40,11 +40,11 @@ graph_answer-requires c = record {
 }
 
 -- the table is refused, and nothing is accepted; the table is good
-no : (c : Then-not-is_accepted) → is_accepted (sort_answer (edition_given c.args.asked.now.sorts)) ≡ false
-no c = sym (rw c.sort_answer-sort.ensures.answer at c.is_accepted.ensures.test) ∙ c.if-not-is_accepted.true
+no : (c : Then-is_err) → is_accepted (sort_answer (edition_given c.args.asked.now.sorts)) ≡ false
+no c = (rw c.sort_answer-sort.ensures.answer at c.is_err.ensures.negation) ∙ ap not c.if-is_err.true
 
-yes : (c : Else-not-is_accepted) → is_accepted (sort_answer (edition_given c.args.asked.now.sorts)) ≡ true
-yes c = sym (rw c.sort_answer-sort.ensures.answer at c.is_accepted.ensures.test) ∙ c.if-not-is_accepted.false
+yes : (c : Else-is_err) → is_accepted (sort_answer (edition_given c.args.asked.now.sorts)) ≡ true
+yes c = (rw c.sort_answer-sort.ensures.answer at c.is_err.ensures.negation) ∙ ap not c.if-is_err.false
 
 unsorted : {P : Type 0} (sort : Answer) (S : SourceGraph) (T : TargetGraph) (x y : ℕ) → is_accepted sort ≡ false
     → is_accepted (first_refusal (graph_answers sort S T x y)) ≡ true → P
@@ -56,13 +56,13 @@ told : (c : After-sort_answer-sort) (S : SourceGraph) (T : TargetGraph) (r : Ans
     → r ≡ first_refusal (graph_answers (sort_answer (edition_given c.args.asked.now.sorts)) S T x y)
 told c S T r x y e = e ∙ ap (λ (a : Answer). first_refusal (graph_answers a S T x y)) c.sort_answer-sort.ensures.answer
 
-pub returns-then-not-is_accepted : goal.returns-then-not-is_accepted
-returns-then-not-is_accepted c =
-    let t = goal.at.returns-then-not-is_accepted c in
+pub returns-then-is_err : goal.returns-then-is_err
+returns-then-is_err c =
+    let t = goal.at.returns-then-is_err c in
     let E = of t.Start in
     let S = source t.Start in
     let T = target t.Start in
-    let n = no t.Then-not-is_accepted in
+    let n = no t.Then-is_err in
     let a = told t.After-sort_answer-sort S T _ 0 0 c.graph_answer.ensures.answer in
     record {
       answer = a ∙ sort-settles (sort_answer E) S T 0 0 (source_ill (sorts_of E) S) (target_ill T) n;
@@ -72,7 +72,7 @@ returns-then-not-is_accepted c =
 
 pub graph_wf-stop0-requires : goal.graph_wf-stop0-requires
 graph_wf-stop0-requires c = record {
-  good = yes (goal.at.graph_wf-stop0-requires c).Else-not-is_accepted;
+  good = yes (goal.at.graph_wf-stop0-requires c).Else-is_err;
   g_in_bounds = c.requires.source_in_bounds;
 }
 
