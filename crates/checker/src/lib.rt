@@ -24,14 +24,15 @@ pub fn check(
         ≡ check_by strict (lowering_of asked.now)
         ws0.old ws1.old cls.old ent.old }
 {
-    forms::count_answer(
+    let a = forms::count_answer(
         asked.source.rows.len(),
         asked.target.rows.len(),
         ws0.len(),
         ws1.len(),
         cls.len(),
         ent.len(),
-    )?;
+    );
+    a?;
     let g = forms::rooted_graphs(strict, asked, ws0, ws1);
     if g.is_err() {
         stages::clear_all(ws0, ws1, cls, ent);

@@ -32,9 +32,10 @@ fn matches(asked: &Asked, ws: &[u64], cls: &mut [u64], ent: &mut [u64]) -> Answe
     ensures entry_list { is_accepted result ≡ true → ent.new
         ≡ offsets (lowering_of asked.now) }
 {
-    let n = rows::row_count(Graph::Source, asked.source.rows);
-    if asked.map.len() != n {
-        return Err(Refusal::MapLength(n as u64, asked.map.len() as u64));
+    let Asked { source, map, .. } = *asked;
+    let n = rows::row_count(Graph::Source, source.rows);
+    if map.len() != n {
+        return Err(Refusal::MapLength(n as u64, map.len() as u64));
     }
     stages::entries(asked, ws, cls, ent)?;
     matching::ext_rows(asked, ent, cls)?;
