@@ -37,12 +37,8 @@ module _ (b : List ℕ) (w0 w1 c e words : ℕ) (a : Answer) (q : a ≡ first_re
     room-good h = rw (counted, sym l, le-ltb _ _ h)
 
 -- either check on the edition and eleven lists that are a book's
-pub held_by : (strict : Bool) (E : Edition) (b x0 x1 x2 x3 x4 x5 x6 x7 x8 x9 x10 ws0 ws1 cls ent : List ℕ) (o : Result) → E ≡ edition_of b
+pub held_by : (b : List ℕ) (E : Edition) (x0 x1 x2 x3 x4 x5 x6 x7 x8 x9 x10 : List ℕ) → E ≡ edition_of b
     → x0 ≡ list_of b 0 → x1 ≡ body b 1 → x2 ≡ list_of b 2 → x3 ≡ list_of b 3
     → x4 ≡ list_of b 4 → x5 ≡ list_of b 5 → x6 ≡ list_of b 6 → x7 ≡ list_of b 7 → x8 ≡ list_of b 8 → x9 ≡ body b 9 → x10 ≡ list_of b 10
-    → o ≡ check_by strict (lowering_in E x0 x1 x2 x3 x4 x5 x6 x7 x8 x9 x10) ws0 ws1 cls ent → o ≡ check_by strict (held b) ws0 ws1 cls ent
-held_by strict E b x0 x1 x2 x3 x4 x5 x6 x7 x8 x9 x10 ws0 ws1 cls ent o e e0 e1 e2 e3 e4 e5 e6 e7 e8 e9 e10 q =
-    q ∙ ap (λ (L : Lowering). check_by strict L ws0 ws1 cls ent) same
-  where
-    same : lowering_in E x0 x1 x2 x3 x4 x5 x6 x7 x8 x9 x10 ≡ held b
-    same = rw (e, e0, e1, e2, e3, e4, e5, e6, e7, e8, e9, e10)
+    → lowering_in E x0 x1 x2 x3 x4 x5 x6 x7 x8 x9 x10 ≡ held b
+held_by b E x0 x1 x2 x3 x4 x5 x6 x7 x8 x9 x10 e e0 e1 e2 e3 e4 e5 e6 e7 e8 e9 e10 = rw (e, e0, e1, e2, e3, e4, e5, e6, e7, e8, e9, e10)

@@ -2,7 +2,8 @@
 #![tactic(auto)]
 
 ghost use Rattle.std.specs.Prelude.{◌≡◌, [], ◌∷◌, ◌++◌, ltb, length, drop};
-ghost use Rattle.sorts.specs.Sorts.{edition};
+ghost use Rattle.sorts.specs.Sorts.{edition_given};
+ghost use Rattle.lowering.specs.Asked.{lowering_of};
 ghost use Rattle.contents.specs.Contents.{is_second, sections};
 ghost use Rattle.book.specs.Good.{Good};
 ghost use Rattle.bodies.specs.Words.{loaded};
@@ -13,6 +14,7 @@ ghost use Rattle.lowering.specs.Check.{check_by, refuse, first_refusal, count_an
 ghost use Rattle.loaded.specs.Held.{edition_of, held, book_words};
 
 use answers::{Answer, Refusal};
+use lowering::{Asked, Source, Target};
 
 // 15 and 18, with room for some words in each of the five lists.
 pub fn room_answer(book: &[u8], w0: usize, w1: usize, c: usize, e: usize, room: usize) -> Answer
@@ -28,9 +30,7 @@ pub fn room_answer(book: &[u8], w0: usize, w1: usize, c: usize, e: usize, room: 
         c,
         e,
     );
-    if !answers::is_accepted(a) {
-        return a;
-    }
+    a?;
     let n = book::sections(book);
     if room < bodies::offset(book, n) {
         return Err(Refusal::WorkShort(5));
@@ -38,23 +38,49 @@ pub fn room_answer(book: &[u8], w0: usize, w1: usize, c: usize, e: usize, room: 
     Ok(())
 }
 
-// The table that gives arrays their sorts: section 12 of a second edition, nothing of a first.
-fn sorts_at<'a>(book: &[u8], words: &'a [u64]) -> &'a [u64]
+// The table that gives arrays their sorts: section 12 of a second edition, none of a first.
+fn sorts_at<'a>(book: &[u8], words: &'a [u64]) -> Option<&'a [u64]>
     requires good { Good book.now }
     requires words_value { words.now ≡ loaded book.now (sections book.now) ++ drop (length (loaded book.now (sections book.now))) words.now }
-    ensures table { edition (is_second book.now) result.now ≡ edition_of book.now }
+    ensures table { edition_given result ≡ edition_of book.now }
 {
-    if book::is_second(book) {
-        return bodies::list_at(book, words, 11);
+    if !book::is_second(book) {
+        return None;
     }
-    &words[0..0]
+    Some(bodies::list_at(book, words, 11))
+}
+
+// What Check is asked by a book whose words stand in a list.
+pub fn asked_by<'a>(book: &'a [u8], words: &'a [u64]) -> Asked<'a>
+    requires good { Good book.now }
+    requires words_value { words.now ≡ loaded book.now (sections book.now) ++ drop (length (loaded book.now (sections book.now))) words.now }
+    ensures lists { lowering_of result ≡ held book.now }
+{
+    Asked {
+        source: Source {
+            rows: bodies::list_at(book, words, 0),
+            bits: book::body(book, 1),
+            side: bodies::list_at(book, words, 2),
+        },
+        eroots: bodies::list_at(book, words, 3),
+        map: bodies::list_at(book, words, 4),
+        reads: bodies::list_at(book, words, 5),
+        calls: bodies::list_at(book, words, 6),
+        cargs: bodies::list_at(book, words, 7),
+        target: Target {
+            rows: bodies::list_at(book, words, 8),
+            bits: book::body(book, 9),
+        },
+        troots: bodies::list_at(book, words, 10),
+        sorts: sorts_at(book, words),
+    }
 }
 
 // Either check on the lists of a book whose words stand in a list.
-pub fn check_loaded(
+pub fn check_loaded<'a>(
     strict: bool,
-    book: &[u8],
-    words: &[u64],
+    book: &'a [u8],
+    words: &'a [u64],
     ws0: &mut [u64],
     ws1: &mut [u64],
     cls: &mut [u64],
@@ -65,24 +91,5 @@ pub fn check_loaded(
     ensures outcome { result_of result (ws0.new ∷ ws1.new ∷ cls.new ∷ ent.new ∷ [])
         ≡ check_by strict (held book.now) ws0.old ws1.old cls.old ent.old }
 {
-    checker::check(
-        strict,
-        bodies::list_at(book, words, 0),
-        book::body(book, 1),
-        bodies::list_at(book, words, 2),
-        bodies::list_at(book, words, 3),
-        bodies::list_at(book, words, 4),
-        bodies::list_at(book, words, 5),
-        bodies::list_at(book, words, 6),
-        bodies::list_at(book, words, 7),
-        bodies::list_at(book, words, 8),
-        book::body(book, 9),
-        bodies::list_at(book, words, 10),
-        book::is_second(book),
-        sorts_at(book, words),
-        ws0,
-        ws1,
-        cls,
-        ent,
-    )
+    checker::check(strict, &asked_by(book, words), ws0, ws1, cls, ent)
 }

@@ -3,6 +3,8 @@ use Prim.Native.Nat.{ℕ}
 use mathlib.Core.Path.{◌≡◌, sym, ap, ◌∙◌}
 use native.Mathlib.Omega.{arith}
 use lib.ListN.{length}
+use Rattle.std.proofs.lemmas.Result.{err_from_is_err_and}
+use Rattle.answers.specs.Answer.{is_accepted}
 use Rattle.contents.proofs.Editions.{sections-low}
 use Rattle.book.proofs.Shape.{first_word}
 use Rattle.bodies.specs.Words.{loaded}
@@ -18,14 +20,17 @@ word_count-requires c = let h = sections-low c.args.book.now in search rules
 pub word_count-requires-2 : goal.word_count-requires-2
 word_count-requires-2 c = let h = sections-low c.args.book.now in search rules
 
-pub returns-then-not-is_accepted : goal.returns-then-not-is_accepted
-returns-then-not-is_accepted c = record {
+pub returns-in_err-a : goal.returns-in_err-a
+returns-in_err-a c = record {
   answer =
+      let q = err_from_is_err_and c.from_residual.result c.from_residual.ensures.1 in
       let s = c.args in
       let b = s.book.now in
-      counts-refused b _ _ _ _ _ _ (c.count_answer-a.ensures.answer (held b).source (held b).target
+      rw (q.1, q.2)
+      (sym c.in_err-a.was
+      ∙ counts-refused b _ _ _ _ _ _ (c.count_answer-a.ensures.answer (held b).source (held b).target
       (sym c.word_count.ensures.count) (sym c.word_count-2.ensures.count))
-      (sym c.is_accepted.ensures.test ∙ c.if-not-is_accepted.true);
+      (ap is_accepted c.in_err-a.was));
 }
 
 pub sections-n-requires : goal.sections-n-requires
@@ -48,7 +53,7 @@ returns-then-room-offset c = record {
       let b = c.args.book.now in
       words-short b _ _ _ _ _ _ (c.count_answer-a.ensures.answer (held b).source (held b).target
       (sym c.word_count.ensures.count) (sym c.word_count-2.ensures.count))
-      (sym c.is_accepted.ensures.test ∙ c.if-not-is_accepted.false) _ (counted (goal.at.returns-then-room-offset c).After-offset)
+      (ap is_accepted c.in_ok-a.was) _ (counted (goal.at.returns-then-room-offset c).After-offset)
       c.if-room-offset.true;
 }
 
@@ -58,5 +63,5 @@ returns c = record {
       let b = c.args.book.now in
       room-good b _ _ _ _ _ _ (c.count_answer-a.ensures.answer (held b).source (held b).target
       (sym c.word_count.ensures.count) (sym c.word_count-2.ensures.count))
-      (sym c.is_accepted.ensures.test ∙ c.if-not-is_accepted.false) _ (counted (goal.at.returns c).After-offset) c.if-room-offset.false;
+      (ap is_accepted c.in_ok-a.was) _ (counted (goal.at.returns c).After-offset) c.if-room-offset.false;
 }
