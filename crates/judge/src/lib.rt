@@ -27,25 +27,22 @@ pub fn judge(
         ≡ judge_by strict book.now ws0.old ws1.old cls.old ent.old words.old }
 {
     let shape = book::book_answer(book);
-    if !answers::is_accepted(shape) {
+    if shape.is_err() {
         stages::clear_all(ws0, ws1, cls, ent);
         lists::clear(words);
         return shape;
     }
-    let room = loaded::room_answer(
+    loaded::room_answer(
         book,
         ws0.len(),
         ws1.len(),
         cls.len(),
         ent.len(),
         words.len(),
-    );
-    if !answers::is_accepted(room) {
-        return room;
-    }
+    )?;
     bodies::load(book, words);
     let a = loaded::check_loaded(strict, book, words, ws0, ws1, cls, ent);
-    bodies::leave(book, words, answers::is_accepted(a));
+    bodies::leave(book, words, a.is_ok());
     a
 }
 

@@ -8,6 +8,7 @@ use lib.Dec.{eqb, ltb}
 use lib.ListN.{length}
 use Rattle.answers.specs.Answer.{Answer}
 use Rattle.answers.specs.Answer.{Accepted, BadRoot}
+use Rattle.answers.proofs.Numbers.{accepted-number}
 use Rattle.answers.specs.Answer.{words_of, is_accepted, and_then}
 use Rattle.answers.specs.Result.{leaves}
 use Rattle.lists.proofs.Choice.{no_way}
@@ -63,7 +64,7 @@ module _ (L : Lowering) (w0 w1 c e : ℕ) where
   strict-or-19 = go (is_accepted counts) refl (is_accepted graphs) refl bits-or-19
     where
       refused : (words_of (bits true)).number ≡ 19 → is_accepted (bits true) ≡ false
-      refused number = ap (λ (n : ℕ). eqb n 0) number
+      refused number = accepted-number _ ∙ ap (λ (n : ℕ). eqb n 0) number
 
       go : (x : Bool) → is_accepted counts ≡ x → (y : Bool) → is_accepted graphs ≡ y
           → (is_accepted (bits true) ≡ true) ⊎ ((words_of (bits true)).number ≡ 19)
@@ -87,4 +88,4 @@ strict-leaves L ws0 ws1 cls ent accepts = go (strict-or-19 L (length ws0) (lengt
         ap (λ (a : Answer). leaves a ((ws0, widths_of_source L) ∷ (ws1, widths_of_target L) ∷ (cls, classes L (source_rows L)) ∷ (ent, offsets L) ∷
         []))
         same
-    go (inr number) = no_way (sym accepts ∙ ap (λ (n : ℕ). eqb n 0) number)
+    go (inr number) = no_way (sym accepts ∙ accepted-number _ ∙ ap (λ (n : ℕ). eqb n 0) number)
