@@ -1,7 +1,8 @@
 // The operation Check, and the strict check, on either edition: one function with two switches.
 #![tactic(auto)]
 
-ghost use Rattle.std.specs.Prelude.{◌≡◌, [], ◌∷◌};
+ghost use Rattle.std.specs.Prelude.{◌≡◌, ◌≤◌, [], ◌∷◌, length};
+ghost use Rattle.rows.specs.Row.{MAX};
 ghost use Rattle.answers.specs.Result.{result_of};
 ghost use Rattle.lowering.specs.Asked.{lowering_of};
 ghost use Rattle.lowering.specs.Check.{check_by};
@@ -20,6 +21,7 @@ pub fn check(
     cls: &mut [u64],
     ent: &mut [u64],
 ) -> Answer
+    ensures slice { length asked.now.target.rows.now ≤ MAX }
     ensures outcome { result_of result (ws0.new ∷ ws1.new ∷ cls.new ∷ ent.new ∷ [])
         ≡ check_by strict (lowering_of asked.now)
         ws0.old ws1.old cls.old ent.old }

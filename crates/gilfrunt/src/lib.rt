@@ -17,6 +17,7 @@ ghost use Rattle.soundness.specs.Choices.{SameChoices, SameStrictChoices};
 
 use answers::Words;
 use book::Stretch;
+use lowering::{Asked, Source, Target};
 
 pub fn gilfrunt_source_widths(
     source: &[u64],
@@ -28,8 +29,7 @@ pub fn gilfrunt_source_widths(
         ≡ told_of (source_widths source.now bits.now side.now
         widths.old) }
 {
-    let none = &source[0..0];
-    told::source_widths(source, bits, side, false, none, widths)
+    told::source_widths(source, bits, side, None, widths)
 }
 
 // With a sort table, as the next functions that have `_with_sorts` (02, 2.9).
@@ -44,7 +44,7 @@ pub fn gilfrunt_source_widths_with_sorts(
         ≡ told_of (source_widths_with_sorts source.now bits.now side.now sorts.now
         widths.old) }
 {
-    told::source_widths(source, bits, side, true, sorts, widths)
+    told::source_widths(source, bits, side, Some(sorts), widths)
 }
 
 pub fn gilfrunt_target_widths(target: &[u64], bits: &[u8], widths: &mut [u64]) -> Words
@@ -74,18 +74,18 @@ pub fn gilfrunt_values(
     told::values(target, bits, given, widths, numbers)
 }
 
-pub fn gilfrunt_check(
-    source: &[u64],
-    ebits: &[u8],
-    eside: &[u64],
-    eroots: &[u64],
-    map: &[u64],
-    reads: &[u64],
-    calls: &[u64],
-    cargs: &[u64],
-    target: &[u64],
-    tbits: &[u8],
-    troots: &[u64],
+pub fn gilfrunt_check<'a>(
+    source: &'a [u64],
+    ebits: &'a [u8],
+    eside: &'a [u64],
+    eroots: &'a [u64],
+    map: &'a [u64],
+    reads: &'a [u64],
+    calls: &'a [u64],
+    cargs: &'a [u64],
+    target: &'a [u64],
+    tbits: &'a [u8],
+    troots: &'a [u64],
     ws0: &mut [u64],
     ws1: &mut [u64],
     classes: &mut [u64],
@@ -102,25 +102,39 @@ pub fn gilfrunt_check(
         eroots.now map.now reads.now calls.now cargs.now target.now
         tbits.now troots.now) classes.new }
 {
-    let none = &source[0..0];
-    reported::check(
-        false, source, ebits, eside, eroots, map, reads, calls, cargs, target, tbits, troots,
-        false, none, ws0, ws1, classes, entries,
-    )
+    let asked = Asked {
+        source: Source {
+            rows: source,
+            bits: ebits,
+            side: eside,
+        },
+        eroots,
+        map,
+        reads,
+        calls,
+        cargs,
+        target: Target {
+            rows: target,
+            bits: tbits,
+        },
+        troots,
+        sorts: None,
+    };
+    reported::check(false, &asked, ws0, ws1, classes, entries)
 }
 
-pub fn gilfrunt_strict_check(
-    source: &[u64],
-    ebits: &[u8],
-    eside: &[u64],
-    eroots: &[u64],
-    map: &[u64],
-    reads: &[u64],
-    calls: &[u64],
-    cargs: &[u64],
-    target: &[u64],
-    tbits: &[u8],
-    troots: &[u64],
+pub fn gilfrunt_strict_check<'a>(
+    source: &'a [u64],
+    ebits: &'a [u8],
+    eside: &'a [u64],
+    eroots: &'a [u64],
+    map: &'a [u64],
+    reads: &'a [u64],
+    calls: &'a [u64],
+    cargs: &'a [u64],
+    target: &'a [u64],
+    tbits: &'a [u8],
+    troots: &'a [u64],
     ws0: &mut [u64],
     ws1: &mut [u64],
     classes: &mut [u64],
@@ -137,26 +151,40 @@ pub fn gilfrunt_strict_check(
         eroots.now map.now reads.now calls.now cargs.now target.now
         tbits.now troots.now) classes.new }
 {
-    let none = &source[0..0];
-    reported::check(
-        true, source, ebits, eside, eroots, map, reads, calls, cargs, target, tbits, troots, false,
-        none, ws0, ws1, classes, entries,
-    )
+    let asked = Asked {
+        source: Source {
+            rows: source,
+            bits: ebits,
+            side: eside,
+        },
+        eroots,
+        map,
+        reads,
+        calls,
+        cargs,
+        target: Target {
+            rows: target,
+            bits: tbits,
+        },
+        troots,
+        sorts: None,
+    };
+    reported::check(true, &asked, ws0, ws1, classes, entries)
 }
 
-pub fn gilfrunt_check_with_sorts(
-    source: &[u64],
-    ebits: &[u8],
-    eside: &[u64],
-    eroots: &[u64],
-    map: &[u64],
-    reads: &[u64],
-    calls: &[u64],
-    cargs: &[u64],
-    target: &[u64],
-    tbits: &[u8],
-    troots: &[u64],
-    sorts: &[u64],
+pub fn gilfrunt_check_with_sorts<'a>(
+    source: &'a [u64],
+    ebits: &'a [u8],
+    eside: &'a [u64],
+    eroots: &'a [u64],
+    map: &'a [u64],
+    reads: &'a [u64],
+    calls: &'a [u64],
+    cargs: &'a [u64],
+    target: &'a [u64],
+    tbits: &'a [u8],
+    troots: &'a [u64],
+    sorts: &'a [u64],
     ws0: &mut [u64],
     ws1: &mut [u64],
     classes: &mut [u64],
@@ -174,25 +202,40 @@ pub fn gilfrunt_check_with_sorts(
         ebits.now eside.now eroots.now map.now reads.now calls.now
         cargs.now target.now tbits.now troots.now) classes.new }
 {
-    reported::check(
-        false, source, ebits, eside, eroots, map, reads, calls, cargs, target, tbits, troots, true,
-        sorts, ws0, ws1, classes, entries,
-    )
+    let asked = Asked {
+        source: Source {
+            rows: source,
+            bits: ebits,
+            side: eside,
+        },
+        eroots,
+        map,
+        reads,
+        calls,
+        cargs,
+        target: Target {
+            rows: target,
+            bits: tbits,
+        },
+        troots,
+        sorts: Some(sorts),
+    };
+    reported::check(false, &asked, ws0, ws1, classes, entries)
 }
 
-pub fn gilfrunt_strict_check_with_sorts(
-    source: &[u64],
-    ebits: &[u8],
-    eside: &[u64],
-    eroots: &[u64],
-    map: &[u64],
-    reads: &[u64],
-    calls: &[u64],
-    cargs: &[u64],
-    target: &[u64],
-    tbits: &[u8],
-    troots: &[u64],
-    sorts: &[u64],
+pub fn gilfrunt_strict_check_with_sorts<'a>(
+    source: &'a [u64],
+    ebits: &'a [u8],
+    eside: &'a [u64],
+    eroots: &'a [u64],
+    map: &'a [u64],
+    reads: &'a [u64],
+    calls: &'a [u64],
+    cargs: &'a [u64],
+    target: &'a [u64],
+    tbits: &'a [u8],
+    troots: &'a [u64],
+    sorts: &'a [u64],
     ws0: &mut [u64],
     ws1: &mut [u64],
     classes: &mut [u64],
@@ -210,10 +253,25 @@ pub fn gilfrunt_strict_check_with_sorts(
         ebits.now eside.now eroots.now map.now reads.now calls.now
         cargs.now target.now tbits.now troots.now) classes.new }
 {
-    reported::check(
-        true, source, ebits, eside, eroots, map, reads, calls, cargs, target, tbits, troots, true,
-        sorts, ws0, ws1, classes, entries,
-    )
+    let asked = Asked {
+        source: Source {
+            rows: source,
+            bits: ebits,
+            side: eside,
+        },
+        eroots,
+        map,
+        reads,
+        calls,
+        cargs,
+        target: Target {
+            rows: target,
+            bits: tbits,
+        },
+        troots,
+        sorts: Some(sorts),
+    };
+    reported::check(true, &asked, ws0, ws1, classes, entries)
 }
 
 pub fn gilfrunt_section_answer(book: &[u8], number: u64) -> Words

@@ -8,13 +8,14 @@ ghost use Rattle.cases.specs.Case.{room, given};
 ghost use Rattle.paired.specs.Paired.{check_of, SameCheck, lent_at, CheckAgrees};
 
 use answers::Words;
+use lowering::{Asked, Source, Target};
 
-fn call_check(
+fn call_check<'a>(
     strict: bool,
     second: bool,
-    words: &[u64],
-    ebits: &[u8],
-    tbits: &[u8],
+    words: &'a [u64],
+    ebits: &'a [u8],
+    tbits: &'a [u8],
     ws0: &mut [u64],
     ws1: &mut [u64],
     classes: &mut [u64],
@@ -24,35 +25,34 @@ fn call_check(
         ≡ told_of (check_of strict second words.now ebits.now tbits.now
         ws0.old ws1.old classes.old entries.old) }
 {
-    reported::check(
-        strict,
-        cases::given(words, 0),
-        ebits,
-        cases::given(words, 2),
-        cases::given(words, 3),
-        cases::given(words, 4),
-        cases::given(words, 5),
-        cases::given(words, 6),
-        cases::given(words, 7),
-        cases::given(words, 8),
-        tbits,
-        cases::given(words, 10),
-        second,
-        cases::given(words, 11),
-        ws0,
-        ws1,
-        classes,
-        entries,
-    )
+    let asked = Asked {
+        source: Source {
+            rows: cases::given(words, 0),
+            bits: ebits,
+            side: cases::given(words, 2),
+        },
+        eroots: cases::given(words, 3),
+        map: cases::given(words, 4),
+        reads: cases::given(words, 5),
+        calls: cases::given(words, 6),
+        cargs: cases::given(words, 7),
+        target: Target {
+            rows: cases::given(words, 8),
+            bits: tbits,
+        },
+        troots: cases::given(words, 10),
+        sorts: if second { Some(cases::given(words, 11)) } else { None },
+    };
+    reported::check(strict, &asked, ws0, ws1, classes, entries)
 }
 
 // Calls on copies of the case's bits and lent lists, and compares the answer and the four lists.
-fn same_check(
+fn same_check<'a>(
     strict: bool,
     second: bool,
-    words: &[u64],
-    ebits: &[u8],
-    tbits: &[u8],
+    words: &'a [u64],
+    ebits: &'a [u8],
+    tbits: &'a [u8],
     ws0: &mut [u64],
     ws1: &mut [u64],
     classes: &mut [u64],
@@ -84,13 +84,13 @@ fn lent_at(second: bool) -> usize
 }
 
 // With copies of the lent lists, four from a place on.
-fn lowering_agrees(
+fn lowering_agrees<'a>(
     strict: bool,
     second: bool,
     at: usize,
-    words: &[u64],
-    ebits: &[u8],
-    tbits: &[u8],
+    words: &'a [u64],
+    ebits: &'a [u8],
+    tbits: &'a [u8],
 ) -> bool
     requires words_len_bound { length words.now ≤ room }
     requires at_bound { at < 20 }

@@ -4,11 +4,11 @@ use Prim.Native.Nat.{ℕ, ◌≤◌}
 use mathlib.Core.Path.{◌≡◌, sym, ap, ◌∙◌}
 use mathlib.Core.Bool.{Bool, true}
 use mathlib.Core.List.{List, [], ◌∷◌}
-use borrow.Author.Tests.{eq-eqb}
 use lib.ListN.{length, get_or}
 use Rattle.answers.specs.Answer.{Answer}
 use Rattle.answers.specs.declared.Words.{Words}
 use Rattle.answers.specs.Answer.{words_of, is_accepted}
+use Rattle.answers.proofs.Numbers.{number-accepted}
 use Rattle.answers.specs.Result.{Result, result_of}
 use Rattle.rows.specs.Row.{MAX}
 use Rattle.lowering.specs.Lowering.{Lowering}
@@ -23,7 +23,7 @@ use Rattle.judge.proofs.Sound.{judge-sound, judge-choices}
 
 -- "acceptance is number 0"
 accepted : (w : Words) (r : Answer) → w ≡ words_of r → w.number ≡ 0 → is_accepted r ≡ true
-accepted w r e z = eq-eqb _ _ (ap (λ (v : Words). v.number) (sym e) ∙ z)
+accepted w r e z = number-accepted r (ap (λ (v : Words). v.number) (sym e) ∙ z)
 
 module _ (strict : Bool) (w : Words) (r : Answer) (e : w ≡ words_of r) (ws0 ws1 cls ent l0 l1 left : List ℕ) (more : List (List ℕ)) where
   abbrev lists : List (List ℕ)

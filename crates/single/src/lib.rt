@@ -15,7 +15,8 @@ fn call_widths(words: &[u64], source: bool, second: bool, bits: &[u8], widths: &
     let rows = cases::given(words, 0);
     if source {
         let side = cases::given(words, 2);
-        return told::source_widths(rows, bits, side, second, cases::given(words, 3), widths);
+        let sorts = if second { Some(cases::given(words, 3)) } else { None };
+        return told::source_widths(rows, bits, side, sorts, widths);
     }
     gilfrunt::gilfrunt_target_widths(rows, bits, widths)
 }

@@ -4,7 +4,7 @@
 ghost use Rattle.std.specs.Prelude.{◌≡◌, [], ◌∷◌};
 ghost use Rattle.answers.specs.Answer.{words_of};
 ghost use Rattle.answers.specs.Result.{told, told_of};
-ghost use Rattle.sorts.specs.Sorts.{edition};
+ghost use Rattle.sorts.specs.Sorts.{edition_given};
 ghost use Rattle.rows.specs.declared.Graph.{Graph};
 ghost use Rattle.widths.specs.Widths.{graph_widths, target_widths, roots_answer};
 ghost use Rattle.values.specs.Values.{values};
@@ -17,31 +17,27 @@ pub fn source_widths(
     source: &[u64],
     bits: &[u8],
     side: &[u64],
-    second: bool,
-    sorts: &[u64],
+    sorts: Option<&[u64]>,
     widths: &mut [u64],
 ) -> Words
     ensures outcome { told result (widths.new ∷ [])
-        ≡ told_of (graph_widths (edition second sorts.now) Graph.Source source.now bits.now
+        ≡ told_of (graph_widths (edition_given sorts.entry) Graph.Source source.now bits.now
         side.now widths.old) }
 {
-    let a = widths::source_widths(source, bits, side, second, sorts, widths);
-    answers::words_of(a)
+    Words::from(widths::source_widths(source, bits, side, sorts, widths))
 }
 
 pub fn target_widths(target: &[u64], bits: &[u8], widths: &mut [u64]) -> Words
     ensures outcome { told result (widths.new ∷ []) ≡ told_of (target_widths target.now bits.now
         widths.old) }
 {
-    let a = widths::target_widths(target, bits, widths);
-    answers::words_of(a)
+    Words::from(widths::target_widths(target, bits, widths))
 }
 
 pub fn roots(widths: &[u64], roots: &[u64]) -> Words
     ensures answer { result ≡ words_of (roots_answer widths.now roots.now) }
 {
-    let a = widths::roots(widths, roots);
-    answers::words_of(a)
+    Words::from(widths::roots(widths, roots))
 }
 
 pub fn values(
@@ -55,13 +51,11 @@ pub fn values(
         ≡ told_of (values target.now bits.now
         given.now widths.old numbers.old) }
 {
-    let a = values::values(target, bits, given, widths, numbers);
-    answers::words_of(a)
+    Words::from(values::values(target, bits, given, widths, numbers))
 }
 
 pub fn section_answer(book: &[u8], number: u64) -> Words
     ensures answer { result ≡ words_of (section_answer book.now number) }
 {
-    let a = book::section_answer(book, number);
-    answers::words_of(a)
+    Words::from(book::section_answer(book, number))
 }

@@ -2,6 +2,7 @@
 use mathlib.Core.Path.{◌≡◌, refl, sym, ap, ◌∙◌}
 use mathlib.Core.Bool.{true, not}
 use mathlib.Core.List.{[]}
+use native.Mathlib.Omega.{arith}
 use lib.ListN.{length}
 use lib.Seq.{length-take-le}
 use Rattle.sorts.specs.Sorts.{edition, plain}
@@ -34,6 +35,7 @@ forms-accepted c = c.is_err.ensures.negation ∙ ap not c.if-is_err.false
 
 pub returns-in_err-a : goal.returns-in_err-a
 returns-in_err-a c = record {
+  slice = omega arith;
   outcome =
       let s = c.args in
       let L = input (goal.at.returns-in_err-a c).Start in
@@ -56,6 +58,7 @@ rooted_graphs-g-requires c =
 
 pub returns-then-is_err : goal.returns-then-is_err
 returns-then-is_err c = record {
+  slice = omega arith;
   outcome =
       let t = goal.at.returns-then-is_err c in
       let s = c.args in
@@ -106,6 +109,7 @@ lowered-m-requires c =
 
 pub returns-then-is_err-2 : goal.returns-then-is_err-2
 returns-then-is_err-2 c = record {
+  slice = omega arith;
   outcome =
       let t = goal.at.returns-then-is_err-2 c in
       let s = c.args in
@@ -142,6 +146,7 @@ clear_from-requires-2 c =
 
 pub returns : goal.returns
 returns c = record {
+  slice = omega arith;
   outcome =
       let t = goal.at.returns c in
       let s = c.args in

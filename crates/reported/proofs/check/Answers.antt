@@ -1,12 +1,12 @@
--- Check's outcome in words; its acceptance is sound, since owning the target's slice bounds its length. Assumes nothing.
+-- Check's outcome in words; its acceptance is sound, since the target is a slice. Assumes nothing.
 use Prim.Native.Nat.{◌≤◌}
 use mathlib.Core.Path.{◌≡◌, ap}
 use native.Mathlib.Omega.{arith}
 use lib.ListN.{length}
-use Rattle.sorts.specs.Sorts.{edition}
+use Rattle.lowering.specs.Asked.{lowering_of}
 use Rattle.answers.specs.Result.{Result, told_of}
 use Rattle.rows.specs.Row.{MAX}
-use Rattle.lowering.specs.Lowering.{Lowering, lowering_in}
+use Rattle.lowering.specs.Lowering.{Lowering}
 use Rattle.lowering.specs.Check.{check_by}
 use Rattle.reported.proofs.Sound.{check-means}
 use Rattle.reported.proofs.check.Goals as goal
@@ -14,14 +14,11 @@ use Rattle.reported.proofs.check.Goals as goal
 pub returns : goal.returns
 returns c =
     let k = c.args in
-    let w = c.words_of.ensures.words in
+    let w = c.from.ensures in
     let o = c.check-a.ensures.outcome in
     -- the lowering that the lists are
-    let input : Lowering =
-    lowering_in (edition k.second k.sorts.now) k.source.now k.ebits.now k.eside.now k.eroots.now k.map.now k.reads.now
-    k.calls.now k.cargs.now k.target.now k.tbits.now k.troots.now in
-    -- owning the target's slice bounds its length
-    let slice : length k.target.now ≤ MAX = omega arith in
+    let input : Lowering = lowering_of k.asked.now in
+    let slice = c.check-a.ensures.slice in
     -- the answer is this check's, on this edition
     let answer-is : c.check-a.result ≡ (check_by k.strict input k.ws0.now k.ws1.now k.classes.now k.entries.now).answer =
     ap (λ (r : Result). r.answer) o in

@@ -11,7 +11,7 @@ use Rattle.reported.proofs.judge.Goals as goal
 pub returns : goal.returns
 returns c =
     let k = c.args in
-    let w = c.words_of.ensures.words in
+    let w = c.from.ensures in
     let o = c.judge-a.ensures.outcome in
     -- owning the book's slice bounds its length
     let slice : length k.book.now ≤ MAX = omega arith in
