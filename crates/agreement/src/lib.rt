@@ -5,6 +5,8 @@ ghost use Rattle.std.specs.Prelude.{◌≡◌, true, ◌≤◌, length, get_or};
 ghost use Rattle.cases.specs.Case.{room, given};
 ghost use Rattle.agreement.specs.Agrees.{BookAgrees, SameSection, SectionAgrees, Agrees};
 
+use answers::Words;
+
 // Whether the library answers a case as expected. Malformed cases and unknown operations do not agree.
 pub fn agrees(words: &[u64]) -> bool
     requires { length words.now ≤ room }
@@ -46,7 +48,7 @@ fn book_agrees(strict: bool, words: &[u64]) -> bool
         return false;
     }
     let a = judge::verdict(strict, &bytes[..n]);
-    cases::same_answer(words, answers::words_of(a))
+    cases::same_answer(words, Words::from(a))
 }
 
 // Compares the answer about a section and its stretch, which is the list afterwards.

@@ -3,6 +3,7 @@
 #![tactic(auto)]
 
 ghost use Rattle.std.specs.Prelude.{◌≡◌, true, ◌+◌, ◌≤◌, max, length, get_or};
+ghost use Rattle.sorts.specs.Sorts.{edition, edition_given};
 ghost use Rattle.cases.specs.Case.{after, after_lists, list_at, given, answer_at, answer, expected, has_shape};
 
 use answers::Words;
@@ -136,4 +137,14 @@ pub fn same_both(words: &[u64], k: usize, a: &[u64], b: &[u64]) -> bool
         return false;
     }
     same_lent(words, k + 1, b)
+}
+
+// List k as the table that gives arrays their sorts, none in a first edition.
+pub fn sorts_given(words: &[u64], second: bool, k: usize) -> Option<&[u64]>
+    ensures edition { edition_given result ≡ edition second (given words.now k) }
+{
+    if second {
+        return Some(given(words, k));
+    }
+    None
 }

@@ -3,7 +3,7 @@ use mathlib.Core.Path.{◌≡◌, ◌∙◌, sym, ap, subst}
 use mathlib.Core.Bool.{Bool, true, false}
 use mathlib.Core.List.{List, [], ◌∷◌}
 use Prim.Native.Nat.{ℕ, ◌+◌, ◌<◌}
-use Rattle.sorts.specs.Sorts.{edition}
+use Rattle.sorts.specs.Sorts.{Edition, edition}
 use native.Mathlib.Omega.{arith}
 use Rattle.answers.specs.declared.Words.{Words}
 use Rattle.answers.specs.Result.{Told, told, told_of}
@@ -19,12 +19,12 @@ same-four e p q r = sym e ∙ rw (p, q.0, q.1, r.0, r.1)
 
 -- Either check: the lowering's lists are the case's; so are copies of the bits and of the lent lists.
 module _ (strict second : Bool) (w ebits tbits : List ℕ) {R : Told} where
-  pub check-call : (k l m n : List ℕ) {a b c d f g h i j x : List ℕ} → a ≡ given w 0 → b ≡ given w 2 → c ≡ given w 3 → d ≡ given w 4
-      → f ≡ given w 5 → g ≡ given w 6 → h ≡ given w 7 → i ≡ given w 8 → j ≡ given w 10 → x ≡ given w 11
-      → R ≡ told_of (check_by strict (lowering_in (edition second x) a ebits b c d f g h i tbits j) k l m n)
+  pub check-call : (k l m n : List ℕ) {a b c d f g h i j : List ℕ} {E : Edition} → a ≡ given w 0 → b ≡ given w 2 → c ≡ given w 3 → d ≡ given w 4
+      → f ≡ given w 5 → g ≡ given w 6 → h ≡ given w 7 → i ≡ given w 8 → j ≡ given w 10 → E ≡ edition second (given w 11)
+      → R ≡ told_of (check_by strict (lowering_in E a ebits b c d f g h i tbits j) k l m n)
       → R ≡ told_of (check_of strict second w ebits tbits k l m n)
-  check-call k l m n {a} {b} {c} {d} {f} {g} {h} {i} {j} {x} p0 p2 p3 p4 p5 p6 p7 p8 p10 p11 e =
-      let same : lowering_in (edition second x) a ebits b c d f g h i tbits j
+  check-call k l m n {a} {b} {c} {d} {f} {g} {h} {i} {j} {E} p0 p2 p3 p4 p5 p6 p7 p8 p10 p11 e =
+      let same : lowering_in E a ebits b c d f g h i tbits j
       ≡ lowering_in (edition second (given w 11)) (given w 0) ebits (given w 2) (given w 3) (given w 4) (given w 5) (given w 6) (given w 7)
       (given w 8)
       tbits (given w 10) =

@@ -41,7 +41,7 @@ fn call_check<'a>(
             bits: tbits,
         },
         troots: cases::given(words, 10),
-        sorts: if second { Some(cases::given(words, 11)) } else { None },
+        sorts: cases::sorts_given(words, second, 11),
     };
     reported::check(strict, &asked, ws0, ws1, classes, entries)
 }

@@ -10,6 +10,8 @@ ghost use Rattle.meaning.specs.Meaning.{truth};
 ghost use Rattle.soundness.specs.Sound.{SoundBy};
 ghost use Rattle.soundness.specs.Choices.{classes_left, SameChoicesBy};
 
+use answers::Words;
+
 // Puts the line of the verdict at the start of out and answers its length.
 pub fn verdict_line(strict: bool, book: &[u8], out: &mut [u8; 71]) -> usize
     ensures fits { result ≤ length out.new }
@@ -19,6 +21,5 @@ pub fn verdict_line(strict: bool, book: &[u8], out: &mut [u8; 71]) -> usize
         → SameChoicesBy (held book.now) (truth strict) (classes_left (held book.now)) }
 {
     let answer = judge::verdict(strict, book);
-    let words = answers::words_of(answer);
-    line::write_line(words, out)
+    line::write_line(Words::from(answer), out)
 }

@@ -3,7 +3,7 @@ use mathlib.Core.Path.{◌≡◌, ◌∙◌, sym, ap}
 use mathlib.Core.Bool.{Bool, true, false}
 use mathlib.Core.List.{List, [], ◌∷◌}
 use Prim.Native.Nat.{ℕ}
-use Rattle.sorts.specs.Sorts.{edition}
+use Rattle.sorts.specs.Sorts.{Edition, edition}
 use Rattle.rows.specs.declared.Graph.TheVariants.{Source}
 use Rattle.answers.specs.declared.Words.{Words}
 use Rattle.answers.specs.Result.{Told, told, told_of}
@@ -21,12 +21,12 @@ same-two e p q = sym e ∙ rw (p, q.0, q.1)
 
 -- Widths: the rows, the side list and the sorts are the case's; so are copies of the bits and of the lent list.
 module _ (second : Bool) (w bits lent : List ℕ) {R : Told} {source : Bool} {rows : List ℕ} (p : rows ≡ given w 0) where
-  pub source-call : {side sorts : List ℕ} → side ≡ given w 2 → sorts ≡ given w 3 → source ≡ true
-      → R ≡ told_of (graph_widths (edition second sorts) Source rows bits side lent) → R ≡ told_of (widths_of source second w bits lent)
-  source-call {side} {sorts} q r s e =
-      e ∙ ap (λ (x : List ℕ). told_of (graph_widths (edition second sorts) Source x bits side lent)) p
-      ∙ ap (λ (x : List ℕ). told_of (graph_widths (edition second sorts) Source (given w 0) bits x lent)) q
-      ∙ ap (λ (x : List ℕ). told_of (graph_widths (edition second x) Source (given w 0) bits (given w 2) lent)) r
+  pub source-call : {side : List ℕ} {E : Edition} → side ≡ given w 2 → E ≡ edition second (given w 3) → source ≡ true
+      → R ≡ told_of (graph_widths E Source rows bits side lent) → R ≡ told_of (widths_of source second w bits lent)
+  source-call {side} {E} q r s e =
+      e ∙ ap (λ (x : List ℕ). told_of (graph_widths E Source x bits side lent)) p
+      ∙ ap (λ (x : List ℕ). told_of (graph_widths E Source (given w 0) bits x lent)) q
+      ∙ ap (λ (x : Edition). told_of (graph_widths x Source (given w 0) bits (given w 2) lent)) r
       ∙ ap (λ (b : Bool). told_of (widths_of b second w bits lent)) (sym s)
 
   pub target-call : source ≡ false → R ≡ told_of (target_widths rows bits lent) → R ≡ told_of (widths_of source second w bits lent)

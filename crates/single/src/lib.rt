@@ -15,7 +15,7 @@ fn call_widths(words: &[u64], source: bool, second: bool, bits: &[u8], widths: &
     let rows = cases::given(words, 0);
     if source {
         let side = cases::given(words, 2);
-        let sorts = if second { Some(cases::given(words, 3)) } else { None };
+        let sorts = cases::sorts_given(words, second, 3);
         return told::source_widths(rows, bits, side, sorts, widths);
     }
     gilfrunt::gilfrunt_target_widths(rows, bits, widths)

@@ -12,7 +12,7 @@ returns c =
     let v = c.verdict-answer.ensures in
     -- the answer is that of the check that was asked for
     let answer-is : c.verdict-answer.result ≡ verdict_by c.args.strict c.args.book.now = v.answer in
-    let l = c.write_line.ensures.line ∙ ap line_of c.words_of-words.ensures.words in
+    let l = c.write_line.ensures.line ∙ ap line_of c.from.ensures in
     let r = c.verdict-answer.result in
     record {
       fits = c.write_line.ensures.fits;

@@ -7,7 +7,7 @@ returns-then-source c = record {
   outcome =
       let a = c.args in
       source-call a.second a.words.now a.bits.now a.widths.now c.given-rows.ensures.list c.given-side.ensures.list
-      c.given.ensures.list c.if-source.true
+      c.sorts_given-sorts.ensures.edition c.if-source.true
       c.source_widths.ensures.outcome;
 }
 
