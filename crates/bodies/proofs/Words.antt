@@ -90,10 +90,6 @@ module _ (bytes old : List ℕ) where
   pub read_more : (out : List ℕ) (j x : ℕ) → out ≡ read j → x ≡ word_at bytes (8 * j) → j < length old → set out j x ≡ read (j + 1)
   read_more out j x e w h = rw (e, w) (build-store (λ (k : ℕ) (before : List ℕ). word_at bytes (8 * k)) old 0 j h)
 
-  pub read_all : (out : List ℕ) (j n : ℕ) → n ≡ length bytes / 8 → j ≤ n → n ≤ j → out ≡ read j
-      → out ≡ words_of_bytes bytes ++ drop (length bytes / 8) old
-  read_all out j n e h l f = let k : j ≡ length bytes / 8 = omega arith in f ∙ ap read k
-
 -- where a section's words stand among all
 module _ (b : List ℕ) where
   pub loaded-none : 0 ≡ length (loaded b 0)

@@ -11,11 +11,8 @@ fn read_words(bytes: &[u8], out: &mut [u64])
     requires { length bytes.now / 8 ≤ length out.old }
     ensures list { out.new ≡ words_of_bytes bytes.now ++ drop (length bytes.now / 8) out.old }
 {
-    let n = bytes.len() / 8;
-    let mut j = 0;
-    while j < n {
+    for j in 0..bytes.len() / 8 {
         out[j] = contents::word(bytes, 8 * j);
-        j += 1;
     }
 }
 
@@ -36,10 +33,8 @@ pub fn offset(book: &[u8], i: usize) -> usize
     ensures count { result ≡ length (loaded book.now i) }
 {
     let mut at = 0;
-    let mut k = 0;
-    while k < i {
+    for k in 0..i {
         at += word_count(book, k);
-        k += 1;
     }
     at
 }
@@ -64,13 +59,10 @@ pub fn load(book: &[u8], words: &mut [u64])
     ensures list { words.new ≡ loaded book.now (sections book.now) ++ drop (length (loaded
         book.now (sections book.now))) words.old }
 {
-    let n = book::sections(book);
     let mut at = 0;
-    let mut i = 0;
-    while i < n {
+    for i in 0..book::sections(book) {
         load_section(book, i, at, words);
         at += word_count(book, i);
-        i += 1;
     }
 }
 

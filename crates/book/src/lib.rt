@@ -29,10 +29,7 @@ pub fn sections(book: &[u8]) -> usize
     requires { 8 ≤ length book.now }
     ensures count { result ≡ sections book.now }
 {
-    if is_second(book) {
-        return 12;
-    }
-    11
+    if is_second(book) { 12 } else { 11 }
 }
 
 // Whether section i + 1 is bad; the last one before it ended at due.
@@ -42,17 +39,10 @@ fn bad_section(book: &[u8], i: usize, due: u64) -> bool
     ensures test { result ≡ bad_section book.now i }
 {
     let start = contents::start_of(book, i);
-    if start != due {
-        return true;
-    }
     let length = contents::length_of(book, i);
-    if contents::runs_past(book.len() as u64, start, length) {
-        return true;
-    }
-    if contents::is_bits(i) {
-        return false;
-    }
-    length % 8 != 0
+    start != due
+        || contents::runs_past(book.len() as u64, start, length)
+        || (!contents::is_bits(i) && length % 8 != 0)
 }
 
 // Where section i + 1 ends.
@@ -70,15 +60,13 @@ fn first_bad(book: &[u8], n: usize) -> usize
     ensures entry { result ≡ first_bad book.now }
 {
     let mut due = 16 * n as u64;
-    let mut i = 0;
-    while i < n {
+    for i in 0..n {
         if bad_section(book, i, due) {
             return i;
         }
         due = end_of(book, i);
-        i += 1;
     }
-    i
+    n
 }
 
 // 20, with its place.

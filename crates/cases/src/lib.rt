@@ -15,25 +15,17 @@ pub const ROOM: usize = 1024;
 fn word_at(words: &[u64], at: usize) -> u64
     ensures word { result ≡ get_or words.now at 0 }
 {
-    if words.len() <= at {
-        return 0;
-    }
-    words[at]
+    words.get(at).copied().unwrap_or(0)
 }
 
 // The place after the list whose count stands at a place.
 fn after_list(words: &[u64], at: usize) -> usize
     ensures place { (result ≡ after words.now at) × (result ≤ length words.now + 1) }
 {
-    if words.len() <= at {
-        return words.len() + 1;
-    }
-    let room = words.len() - at - 1;
-    let count = words[at];
-    if (room as u64) < count {
-        return words.len() + 1;
-    }
-    at + 1 + count as usize
+    let count = word_at(words, at) as usize;
+    at.saturating_add(1)
+        .saturating_add(count)
+        .min(words.len() + 1)
 }
 
 // The place after so many lists.
@@ -42,29 +34,19 @@ fn after_lists(words: &[u64], from: usize, lists: usize) -> usize
     ensures most { result ≤ max from (length words.now + 1) }
 {
     let mut at = from;
-    let mut k = 0;
-    while k < lists {
+    for _ in 0..lists {
         at = after_list(words, at);
-        k += 1;
     }
     at
 }
 
 // The list whose count stands at a place.
+#[tactic(auto, unfolding(crate::specs::Case::list_at))]
 fn list_at(words: &[u64], at: usize) -> &[u64]
     ensures list { result.now ≡ list_at words.now at }
 {
-    if words.len() <= at {
-        return &words[0..0];
-    }
-    let start = at + 1;
-    let count = words[at];
-    let room = words.len() - start;
-    if (room as u64) < count {
-        return &words[start..];
-    }
-    let end = start + count as usize;
-    &words[start..end]
+    let rest = words.get(at.saturating_add(1)..).unwrap_or(&[]);
+    rest.get(..word_at(words, at) as usize).unwrap_or(rest)
 }
 
 // Where the expected answer stands.
@@ -76,6 +58,7 @@ fn answer_at(words: &[u64]) -> usize
 }
 
 // Whether a case has so many lists, so many lent lists, and nothing else.
+#[tactic(auto, unfolding(crate::specs::Case::has_shape))]
 pub fn has_shape(words: &[u64], lists: u64, lent: u64) -> bool
     ensures shape { result ≡ has_shape words.now lists lent }
 {
@@ -83,13 +66,11 @@ pub fn has_shape(words: &[u64], lists: u64, lent: u64) -> bool
         return false;
     }
     let at = answer_at(words);
-    if word_at(words, at + 3) != lent {
-        return false;
-    }
-    after_lists(words, at + 4, lent as usize) == words.len()
+    word_at(words, at + 3) == lent && after_lists(words, at + 4, lent as usize) == words.len()
 }
 
 // List k of the call.
+#[tactic(auto, using(crate::proofs::Case::list_fits))]
 pub fn given(words: &[u64], k: usize) -> &[u64]
     ensures list { result.now ≡ given words.now k }
     ensures fits { length result.now ≤ length words.now }
@@ -124,7 +105,7 @@ pub fn same_lent(words: &[u64], k: usize, list: &[u64]) -> bool
     ensures equal { (result ≡ true → list.now ≡ expected words.now k)
         × (list.now ≡ expected words.now k → result ≡ true) }
 {
-    copies::same_list(list, expected(words, k))
+    list == expected(words, k)
 }
 
 // Whether two lists are lent lists k and k + 1.
@@ -133,10 +114,7 @@ pub fn same_both(words: &[u64], k: usize, a: &[u64], b: &[u64]) -> bool
     ensures equal { result ≡ true → (a.now ≡ expected words.now k) × (b.now ≡ expected
         words.now (k + 1)) }
 {
-    if !same_lent(words, k, a) {
-        return false;
-    }
-    same_lent(words, k + 1, b)
+    same_lent(words, k, a) && same_lent(words, k + 1, b)
 }
 
 // List k as the table that gives arrays their sorts, none in a first edition.

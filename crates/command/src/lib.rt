@@ -25,10 +25,7 @@ fn fail(rt: &impl Eprint, strict: bool, why: &str) -> io::Result<()> {
 // What went wrong with a file stands behind its name.
 fn print_named_verdict(rt: &HostRuntime, strict: bool, path: &str) -> io::Result<()> {
     match fs::open(rt, path) {
-        Ok(file) => {
-            let mut file = file;
-            print_verdict(rt, strict, &mut file)
-        }
+        Ok(mut file) => print_verdict(rt, strict, &mut file),
         Err(error) => eprintln!(rt; "{path}: {error}"),
     }
 }
@@ -54,10 +51,7 @@ fn print_usage(rt: &impl Eprint, strict: bool) -> io::Result<()> {
 // Whether there is an argument i, whatever its bytes.
 fn is_given(rt: &impl Env, i: usize) -> bool {
     let mut start = [0u8; 1];
-    match rt.arg(i, &mut start) {
-        Err(FillError::NotPresent) => false,
-        _ => true,
-    }
+    !matches!(rt.arg(i, &mut start), Err(FillError::NotPresent))
 }
 
 pub fn run(rt: &HostRuntime, strict: bool) -> io::Result<()> {

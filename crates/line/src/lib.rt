@@ -9,53 +9,26 @@ use answers::Words;
 // `refused`, three numbers of 20 digits, each behind a space, and a newline.
 pub const LONGEST: usize = 71;
 
-fn digit(d: u64) -> u8
-    requires { d < 10 }
-    ensures ascii { result ≡ 48 + d }
-{
-    48 + d as u8
-}
-
-// Puts a number's digits at the end of out and answers where they start.
-fn spell(n: u64, out: &mut [u8]) -> usize
-    requires { length out.old ≡ 20 }
-    ensures start { result ≤ 20 }
-    ensures digits { drop result out.new ≡ decimal n }
-{
-    let mut at = 19;
-    let mut rest = n;
-    while 9 < rest {
-        out[at] = digit(rest % 10);
-        at -= 1;
-        rest /= 10;
-    }
-    out[at] = digit(rest);
-    at
-}
-
 // Puts a text at a place of out and answers where it ends.
 fn put(text: &[u8], out: &mut [u8], at: usize) -> usize
     requires { at + length text.now ≤ length out.old }
     ensures end { result ≡ at + length text.now }
     ensures front { take result out.new ≡ take at out.old ++ text.now }
 {
-    let mut i = 0;
-    while i < text.len() {
-        out[at + i] = text[i];
-        i += 1;
-    }
-    at + i
+    let end = at + text.len();
+    out[at..end].copy_from_slice(text);
+    end
 }
 
 // Puts a number and the byte that ends it at a place of out and answers where they end.
+// By parts, not by `write!`: the contract of that allows a failure at any text, and a line is written always.
 fn put_number(n: u64, last: u8, out: &mut [u8], at: usize) -> usize
     requires { at + 21 ≤ length out.old }
     ensures end { result ≤ at + 21 }
     ensures front { take result out.new ≡ take at out.old ++ (decimal n ++ (last ∷ [])) }
 {
-    let mut text = [0u8; 20];
-    let start = spell(n, &mut text);
-    let end = put(&text[start..], out, at);
+    let mut digits = itoa::Buffer::new();
+    let end = put(digits.format(n).as_bytes(), out, at);
     out[end] = last;
     end + 1
 }

@@ -1,21 +1,16 @@
 // From text to words: lines, and in a line lower-case hexadecimal numbers with single spaces between.
 #![tactic(auto)]
 
-ghost use Rattle.std.specs.Prelude.{◌≡◌, ◌+◌, ◌-◌, ◌<◌, ◌≤◌, length, take, drop, slice_index, slice_range};
+ghost use Rattle.std.specs.Prelude.{◌≡◌, ◌+◌, ◌≤◌, length, take, drop, slice_index, IfSome, is_none};
+ghost use Rattle.std.specs.List.{position};
 ghost use Rattle.io.specs.Counts.{IsPrefixLen};
 ghost use Rattle.text.specs.Line.{digit_of, digits, number, good_digits, word_ends, token, words_in};
 
-// A word and where the next one starts; next is 0 where there is no good word.
+// A word and where the next one starts.
 #[derive(Clone, Copy)]
 struct Token {
     value: u64,
     next: usize,
-}
-
-fn wide(x: u8) -> u64
-    ensures value { (result ≡ x) × (result < 256) }
-{
-    x as u64
 }
 
 // The place of the next line end, or the text's length.
@@ -23,108 +18,85 @@ pub fn line_end(text: &[u8], from: usize) -> usize
     requires { from ≤ length text.now }
     ensures place { (from ≤ result) × (result ≤ length text.now) }
 {
-    let mut at = from;
-    while at < text.len() {
-        if text[at] == b'\n' {
-            return at;
-        }
-        at += 1;
+    match text[from..].iter().position(|b| *b == b'\n') {
+        Some(n) => from + n,
+        None => text.len(),
     }
-    at
 }
 
-// The value of a digit, and 16 for any other byte.
-fn digit(b: u8) -> u64
-    ensures value { (result ≡ digit_of b) × (result ≤ 16) }
+// The value of a digit. By hand: `to_digit` takes upper case too.
+#[tactic(auto, unfolding(crate::specs::Line::digit_of))]
+fn digit(b: u8) -> Option<u64>
+    ensures value { result ≡ digit_of b }
 {
-    if b < b'0' {
-        return 16;
+    match b {
+        b'0'..=b'9' => Some(u64::from(b - b'0')),
+        b'a'..=b'f' => Some(u64::from(b - b'a' + 10)),
+        _ => None,
     }
-    if b <= b'9' {
-        return wide(b - b'0');
-    }
-    if b < b'a' {
-        return 16;
-    }
-    if b <= b'f' {
-        return wide(b - b'a') + 10;
-    }
-    16
 }
 
-// The place after the digits that start at a place.
-fn digits_end(line: &[u8], from: usize) -> usize
-    requires { from ≤ length line.now }
-    ensures place { (result ≡ from + digits (drop from line.now)) × (from ≤ result) × (result ≤ length line.now) }
+// The place of the first byte that is no digit.
+fn first_other(rest: &[u8]) -> Option<usize>
+    ensures place { result ≡ position (λ b. is_none (digit_of b)) rest.now }
 {
-    let mut at = from;
-    while at < line.len() {
-        if digit(line[at]) == 16 {
-            return at;
-        }
-        at += 1;
-    }
-    at
+    rest.iter().position(|b| digit(*b).is_none())
+}
+
+// How many digits stand in front.
+#[tactic(auto, using(crate::proofs::Line::digits_found, crate::proofs::Line::digits_within))]
+fn digits(rest: &[u8]) -> usize
+    ensures count { result ≡ digits rest.now }
+    ensures bound { result ≤ length rest.now }
+{
+    first_other(rest).unwrap_or(rest.len())
 }
 
 // One to sixteen digits, with no 0 in front of others.
-fn good_digits(line: &[u8], from: usize, end: usize) -> bool
-    requires { (from ≤ end) × (end ≤ length line.now) }
-    ensures good { result ≡ good_digits (end - from) (slice_index line.now from) }
+#[tactic(auto, unfolding(crate::specs::Line::good_digits))]
+fn good_digits(digits: &[u8]) -> bool
+    ensures good { result ≡ good_digits (length digits.now) (slice_index digits.now 0) }
 {
-    let n = end - from;
-    if n == 0 {
-        return false;
+    match digits {
+        [] => false,
+        [_] => true,
+        [first, ..] => digits.len() <= 16 && *first != b'0',
     }
-    if n == 1 {
-        return true;
-    }
-    if 16 < n {
-        return false;
-    }
-    line[from] != b'0'
 }
 
-// The value of the digits from one place to another.
-fn value(line: &[u8], from: usize, end: usize) -> u64
-    requires { (from ≤ end) × (end ≤ length line.now) }
-    ensures value { result ≡ number 0 (slice_range line.now from end) }
+// The value of digits.
+fn value(digits: &[u8]) -> u64
+    ensures value { result ≡ number 0 digits.now }
 {
-    let mut v: u64 = 0;
-    let mut at = from;
-    while at < end {
-        v = std::num::wrapping_add_u64(v << 4, digit(line[at]));
-        at += 1;
-    }
-    v
+    digits
+        .iter()
+        .fold(0u64, |v, b| (v << 4).wrapping_add(digit(*b).unwrap_or(0)))
 }
 
 // Whether a space or the line's end follows.
+#[tactic(auto, unfolding(crate::specs::Line::word_ends))]
 fn word_ends(line: &[u8], end: usize) -> bool
     ensures ends { result ≡ word_ends line.now end }
 {
-    if line.len() <= end {
-        return true;
-    }
-    line[end] == b' '
+    line.get(end).is_none_or(|b| *b == b' ')
 }
 
 // The word at a place, which a space or the line's end must follow.
-fn next_word(line: &[u8], at: usize) -> Token
+fn next_word(line: &[u8], at: usize) -> Option<Token>
     requires { at ≤ length line.now }
-    ensures word { (result ≡ token line.now at) × (result.next ≤ length line.now + 1) }
+    ensures word { result ≡ token line.now at }
+    ensures next { IfSome result (λ t. t.next ≤ length line.now + 1) }
 {
-    let end = digits_end(line, at);
-    if !good_digits(line, at, end) {
-        return Token { value: 0, next: 0 };
+    let rest = &line[at..];
+    let n = digits(rest);
+    let end = at + n;
+    if !good_digits(&rest[..n]) || !word_ends(line, end) {
+        return None;
     }
-    if !word_ends(line, end) {
-        return Token { value: 0, next: 0 };
-    }
-    Token {
-        value: value(line, at, end),
+    Some(Token {
+        value: value(&rest[..n]),
         next: end + 1,
-    }
+    })
 }
 
 // Puts a line's words at the start of out. The number of words, or 0 where the line is malformed or
@@ -134,18 +106,15 @@ pub fn read_line(line: &[u8], out: &mut [u64]) -> usize
     ensures words { take result out.new ≡ words_in (length out.old) line.now }
 {
     let mut at = 0;
-    let mut n = 0;
-    while n < out.len() {
-        let t = next_word(line, at);
-        if t.next == 0 {
+    for (n, place) in out.iter_mut().enumerate() {
+        let Some(word) = next_word(line, at) else {
             return 0;
+        };
+        *place = word.value;
+        if line.len() < word.next {
+            return n + 1;
         }
-        out[n] = t.value;
-        n += 1;
-        if line.len() < t.next {
-            return n;
-        }
-        at = t.next;
+        at = word.next;
     }
     0
 }

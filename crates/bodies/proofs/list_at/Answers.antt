@@ -1,46 +1,27 @@
 -- From the words before the section's to the end of its own, as `part` says. Assumes nothing.
-use Prim.Native.Nat.{◌≤◌}
-use native.Mathlib.Omega.{arith}
-use lib.ListN.{length}
-use Rattle.contents.proofs.Editions.{sections-high}
-use Rattle.bodies.proofs.Words.{part}
-use borrow.Author.Rules.{rules}
+use Rattle.std.proofs.Common.{◌≤◌, length, rules, arith}
+use Rattle.bodies.proofs.Words.{Part, part}
 use Rattle.bodies.proofs.list_at.Goals as goal
+use Rattle.bodies.proofs.list_at.Goals.{After-offset-end}
 
-pub overflow_add-i : goal.overflow_add-i
-overflow_add-i c = let h = sections-high c.args.book.now in search rules
+part-of : (c : After-offset-end) → Part c.args.book.now c.args.i c.args.words.now c.offset-from.result c.offset-end.result
+part-of c = part c.args.book.now c.args.words.now c.args.i _ _ c.requires.i_bound.0 c.requires.words_value c.offset-from.ensures.count
+    c.offset-end.ensures.count
 
 pub offset_bounds-words-from : goal.offset_bounds-words-from
 offset_bounds-words-from c =
-    let s = c.before.before.before.before in
-    let p =
-    part s.args.book.now s.args.words.now s.args.i _ _ s.requires.i_bound.0 s.requires.words_value c.offset-from.ensures.count
-    c.offset-end.ensures.count in
-    let h : c.offset-from.result ≤ length s.args.words.now = omega (arith, p.ordered, p.inside) in
+    let p = part-of (goal.at.offset_bounds-words-from c).After-offset-end in
+    let h : c.offset-from.result ≤ length c.args.words.now = omega (arith, p.ordered, p.inside) in
     search rules
 
 pub slice_bounds-result-count : goal.slice_bounds-result-count
-slice_bounds-result-count c =
-    let s = c.before.before.before.before in
-    (part s.args.book.now s.args.words.now s.args.i _ _ s.requires.i_bound.0 s.requires.words_value c.offset-from.ensures.count
-    c.offset-end.ensures.count).ordered
+slice_bounds-result-count c = (part-of (goal.at.slice_bounds-result-count c).After-offset-end).ordered
 
 pub slice_bounds-result-start : goal.slice_bounds-result-start
-slice_bounds-result-start c =
-    let s = c.before.before.before.before in
-    (part s.args.book.now s.args.words.now s.args.i _ _ s.requires.i_bound.0 s.requires.words_value c.offset-from.ensures.count
-    c.offset-end.ensures.count).ordered
+slice_bounds-result-start c = (part-of (goal.at.slice_bounds-result-start c).After-offset-end).ordered
 
 pub slice_bounds-result-end : goal.slice_bounds-result-end
-slice_bounds-result-end c =
-    let s = c.before.before.before.before in
-    (part s.args.book.now s.args.words.now s.args.i _ _ s.requires.i_bound.0 s.requires.words_value c.offset-from.ensures.count
-    c.offset-end.ensures.count).inside
+slice_bounds-result-end c = (part-of (goal.at.slice_bounds-result-end c).After-offset-end).inside
 
 pub returns : goal.returns
-returns c = record {
-  list =
-      let s = c.before.before.before.before.before in
-      (part s.args.book.now s.args.words.now s.args.i _ _ s.requires.i_bound.0 s.requires.words_value c.offset-from.ensures.count
-      c.offset-end.ensures.count).part-is;
-}
+returns c = record { list = (part-of (goal.at.returns c).After-offset-end).part-is }

@@ -1,21 +1,14 @@
--- The digits, as `spell` leaves them, and a byte behind them. Assumes nothing.
-use Prim.Native.Nat.{◌-◌, ◌<◌}
-use mathlib.Core.Path.{◌∙◌}
-use native.Mathlib.Omega.{arith}
-use lib.ListN.{length, length-drop}
-use lib.Seq.{take_all}
-use Rattle.line.proofs.Line.{number_put}
+-- The digits that the library prints, and a byte behind them. Assumes nothing.
+use Rattle.std.proofs.Common.{◌<◌, ◌≡◌, length, sym, ◌∙◌, append_assoc, add-one, arith}
+use Rattle.std.proofs.Math.Seq.{take-suc-set}
+use Rattle.line.specs.Line.{decimal}
+use Rattle.line.proofs.Line.{decimal-printed}
 use Rattle.line.proofs.put_number.Goals as goal
 
-pub returns : goal.returns
-returns c = record {
-  end = let p = c.put-end in
-      let q = c.spell-start in
-      let a = c.args in
-      let h : p.result < length p.new.out = omega arith in omega arith;
-  front = let p = c.put-end in
-      let q = c.spell-start in
-      let a = c.args in
-      let h : p.result < length p.new.out = omega arith in number_put _ a.out.now _ _ p.result a.at a.last h p.ensures.front
-      (take_all (20 - q.result) _ (simp length-drop (omega (arith, q.auto))) ∙ q.ensures.digits);
-}
+pub returns-clause-front : goal.returns-clause-front
+returns-clause-front c =
+    let h : c.put-end.result < length c.put-end.new.out = omega arith in
+    let e : c.as_bytes.result.now ≡ decimal c.args.n =
+    c.as_bytes.ensures.value ∙ c.format.ensures.text ∙ sym (decimal-printed c.args.n c.ranges.n.fits) in
+    rw (add-one c.put-end.result) (take-suc-set c.put-end.new.out c.put-end.result c.args.last h
+    ∙ rw (c.put-end.ensures.front, e, append_assoc))

@@ -4,9 +4,7 @@ use Rattle.text.specs.Line.{words_from, words_in}
 use Rattle.text.proofs.read_line.Given as goal
 
 abbrev pub invariant-loop-n : goal.invariant-loop-n
-invariant-loop-n l =
-    (l.at ≤ length l.line) × (l.n ≤ length l.initial.out) × (length l.out ≡ length l.initial.out)
-    × (words_in (length l.initial.out) l.line ≡ words_from (length l.initial.out - l.n) l.line l.at (take l.n l.out))
-
-abbrev pub decreases-loop-n : goal.decreases-loop-n
-decreases-loop-n l = length l.initial.out - l.n
+invariant-loop-n l = record {
+  inside : l.at ≤ length l.line;
+  same : words_in (length l.initial.out) l.line ≡ words_from (length l.initial.out - l.n) l.line l.at (take l.n l.out);
+}
