@@ -1,5 +1,4 @@
 pub mod First
 pub mod Build
-pub mod Fill
 pub mod Choice
 pub mod Tests
