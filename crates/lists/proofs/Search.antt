@@ -4,13 +4,18 @@ use mathlib.Core.Path.{◌≡◌, refl, ap, ◌∙◌}
 use mathlib.Core.Bool.{Bool, true, false, cond, not, ◌&&◌}
 use mathlib.Core.List.{List, [], ◌∷◌}
 use native.Mathlib.Omega.{arith}
-use lib.Dec.{eqb}
+use borrow.Author.Tests.{ltb-false}
+use lib.Dec.{eqb, ltb}
 use lib.ListN.{length, get_or, take, drop}
 use Rattle.std.proofs.Math.Dec.{eqb-suc-suc, eqb-zero-suc}
 use Rattle.std.proofs.lemmas.List.{get_or-drop, get_or-take, length-drop, length-take-le}
 use Rattle.std.proofs.lemmas.List.FromFn.{get_or-range_with_len, length-range_with_len}
 use Rattle.std.specs.List.{range_with_len, list_all, position_or_len}
+use Rattle.std.specs.Option.{unwrap_or}
+use Rattle.std.specs.declared.option.Option.{Option}
+use Rattle.std.specs.declared.option.Option.TheVariants.{Some, None}
 use Rattle.lists.specs.First.{first, none}
+use Rattle.lists.proofs.First.{first-le}
 
 module _ {X : Type 0} (test : X → Bool) (d : X) where
   -- `position`, where no element passes the length
@@ -25,6 +30,21 @@ module _ {X : Type 0} (test : X → Bool) (d : X) where
           → cond (not b) (1 + position_or_len test xs) 0 ≡ cond b 0 (suc (first (λ i. p (suc i)) (length xs)))
       go true e = refl
       go false e = omega arith
+
+  -- what `position` answers, with the length in place of `None`
+  pub first-or-length : (p : ℕ → Bool) (xs : List X) (r : Option ℕ)
+      → r ≡ cond (ltb (position_or_len test xs) (length xs)) (Some (position_or_len test xs)) None
+      → ((l : ℕ) → l < length xs → p l ≡ test (get_or xs l d)) → unwrap_or r (length xs) ≡ first p (length xs)
+  first-or-length p xs r e h =
+      let place = first-position p xs h in
+      let low : first p (length xs) ≤ length xs = first-le p (length xs) in
+      rw e (go (ltb (position_or_len test xs) (length xs)) refl place low)
+    where
+      go : (b : Bool) → ltb (position_or_len test xs) (length xs) ≡ b → position_or_len test xs ≡ first p (length xs)
+          → first p (length xs) ≤ length xs
+          → unwrap_or (cond b (Some (position_or_len test xs)) None) (length xs) ≡ first p (length xs)
+      go true e place low = place
+      go false e place low = let past = ltb-false _ _ e in omega arith
 
   -- `all`, by the test that an element fails
   pub none-all : (bad : ℕ → Bool) (xs : List X) → ((l : ℕ) → l < length xs → test (get_or xs l d) ≡ not (bad l))
