@@ -104,28 +104,17 @@ class Definitions(unittest.TestCase):
 
 
 class Table(unittest.TestCase):
-    """The table of operand facts (02, 2.2) in code and in definitions: the same lines, numbers and tags."""
-    CODE = os.path.join(CRATES, "rules", "src")
-    KINDS = {"o": "operand", "j": "join", "s": "source"}
+    """The table of operand facts (02, 2.2) in code and in definitions: the same lines and tags."""
 
     def test_line_for_line(self):
-        code = re.findall(r"(?m)^    Line\(operand::(\w+), join::(\w+), source::(\w+)\), // (\d+) (\w+)$",
-                          read(os.path.join(self.CODE, "lines.rt")))
-        defined = re.findall(r"(?m)^    (?:∷ )?line o_(\w+) j_(\w+) s_(\w+)  -- (\d+) (\w+)$",
+        code = re.findall(r"(?m)^    facts!\((\w+), (\w+), (\w+)\), // (\d+) (\w+)$",
+                          read(os.path.join(CRATES, "rules", "src", "lines.rt")))
+        defined = re.findall(r"(?m)^    (?:∷ )?line operand\.(\w+) join\.(\w+) source\.(\w+)  -- (\d+) (\w+)$",
                              read(os.path.join(CRATES, "rules", "specs", "Table.antt")))
-        plain = [tuple(part.replace("_", "").lower() for part in line) for line in code]
-        self.assertEqual(plain, [tuple(part.replace("_", "").lower() for part in line) for line in defined])
+        self.assertEqual(code, defined)
         tags = re.findall(r"(?m)^pub const (\w+): u64 = (\d+);$", read(os.path.join(CRATES, "rows", "src", "tag.rt")))
-        self.assertEqual([line[3:] for line in plain],
+        self.assertEqual([(number, name.lower()) for _, _, _, number, name in code],
                          [(number, name.replace("_", "").lower()) for name, number in tags])
-
-    def test_numbers(self):
-        defined = read(os.path.join(CRATES, "rules", "specs", "Table.antt"))
-        for letter, kind in self.KINDS.items():
-            code = re.findall(r"(?m)^pub const (\w+): u8 = (\d+);$", read(os.path.join(self.CODE, kind + ".rt")))
-            names = re.findall(rf"(?m)^{letter}_(\w+) = (\d+)$", defined)
-            self.assertEqual([(name.replace("_", "").lower(), number) for name, number in code],
-                             [(name.replace("_", "").lower(), number) for name, number in names], kind)
 
 
 class Text(unittest.TestCase):

@@ -23,12 +23,8 @@ fn field_count(t: u64) -> u64
         return 4;
     }
     match t {
-        tag::VAR => 1,
-        tag::NOT => 1,
-        tag::BV_NOT => 1,
-        tag::NEG => 1,
-        tag::EXTRACT => 3,
-        tag::ITE => 3,
+        tag::VAR | tag::NOT | tag::BV_NOT | tag::NEG => 1,
+        tag::EXTRACT | tag::ITE => 3,
         _ => 2,
     }
 }
@@ -36,20 +32,14 @@ fn field_count(t: u64) -> u64
 fn field_good(n: u64, k: u64, field: u64) -> bool
     ensures test { result ≡ field_good n k field }
 {
-    if n < k { field == 0 } else { true }
+    k <= n || field == 0
 }
 
 // With n fields in use, the others are 0; the first is always in use.
 pub fn fields_good(n: u64, f2: u64, f3: u64, f4: u64) -> bool
     ensures test { result ≡ fields_good n f2 f3 f4 }
 {
-    if !field_good(n, 2, f2) {
-        return false;
-    }
-    if !field_good(n, 3, f3) {
-        return false;
-    }
-    field_good(n, 4, f4)
+    field_good(n, 2, f2) && field_good(n, 3, f3) && field_good(n, 4, f4)
 }
 
 // A known tag, and 0 in each field that it doesn't use.
@@ -57,10 +47,7 @@ pub fn row_good(graph: Graph, r: [u64; 5]) -> bool
     ensures test { result ≡ row_good graph r }
 {
     let t = r[0];
-    if tag_count(graph) <= t {
-        return false;
-    }
-    fields_good(field_count(t), r[2], r[3], r[4])
+    t < tag_count(graph) && fields_good(field_count(t), r[2], r[3], r[4])
 }
 
 // The first row that is not good, or the number of rows, where those before `from` are good.
@@ -70,14 +57,12 @@ pub fn bad_row(graph: Graph, g: &[u64], from: usize) -> usize
     ensures row { result ≡ bad_row graph g.now }
 {
     let n = rows::row_count(graph, g);
-    let mut i = from;
-    while i < n {
+    for i in from..n {
         if !row_good(graph, rows::row(graph, g, i)) {
             return i;
         }
-        i += 1;
     }
-    i
+    n
 }
 
 // The largest byte, 0 where there is none: one pass without a branch.
@@ -85,31 +70,16 @@ fn largest(bits: &[u8]) -> u8
     ensures most { (j : ℕ) → j < length bits.now → get_or bits.now j 0 ≤ result }
 {
     let mut most = 0;
-    let mut i = 0;
-    while i < bits.len() {
-        most = larger(most, bits[i]);
-        i += 1;
+    for bit in bits {
+        most = most.max(*bit);
     }
     most
-}
-
-fn larger(a: u8, b: u8) -> u8
-    ensures most { (a ≤ result) × (b ≤ result) }
-{
-    if a < b { b } else { a }
 }
 
 fn first_bad_bit(bits: &[u8]) -> usize
     ensures position { result ≡ bad_bit bits.now }
 {
-    let mut i = 0;
-    while i < bits.len() {
-        if 1 < bits[i] {
-            return i;
-        }
-        i += 1;
-    }
-    i
+    bits.iter().position(|bit| 1 < *bit).unwrap_or(bits.len())
 }
 
 // The first byte above 1, or the number of bytes.

@@ -6,11 +6,7 @@ ghost use Rattle.std.specs.Prelude.{◌≡◌, ◌++◌, ◌+◌, ◌≤◌, ◌
 pub fn clear(s: &mut [u64])
     ensures zeros { s.new ≡ replicate (length s.old) 0 }
 {
-    let mut i = 0;
-    while i < s.len() {
-        s[i] = 0;
-        i += 1;
-    }
+    s.fill(0);
 }
 
 // Zeros from a place to the end.
@@ -18,7 +14,7 @@ pub fn clear_from(s: &mut [u64], from: usize)
     requires { from ≤ length s.old }
     ensures zeros { s.new ≡ take from s.old ++ replicate (length s.old - from) 0 }
 {
-    clear(&mut s[from..]);
+    s[from..].fill(0);
 }
 
 // k words from o on lie in a list of n.

@@ -1,4 +1,4 @@
-// The tags of rows (01, 'Rows'), under the Rust's names.
+// The tags of rows (01, 'Rows'), under the Rust's names. They stay numbers, not variants: a row is words that a C program gives, with any tag.
 pub const VAR: u64 = 0;
 
 pub const CONST: u64 = 1;

@@ -2,52 +2,120 @@
 ghost use Rattle.std.specs.Prelude.{◌≡◌};
 ghost use Rattle.rules.specs.Table.{table};
 
-use crate::{join, operand, source};
+// How many operands a row has, side lists aside, and where they stand; first the rows that can have a side list.
+#[derive(Clone, Copy, PartialEq, Eq)]
+pub enum Operands {
+    Empty,
+    // One, in this field.
+    Field2,
+    Field1,
+    Field3,
+    // In fields 1 and 2.
+    Two,
+    // In fields 1 to 3.
+    Three,
+}
 
-// Operands (operand.rt); how widths join (join.rt); where the width comes from (source.rt).
+// How the widths of a row's operands join. The operands are first to third as the row names them.
+#[derive(Clone, Copy, PartialEq, Eq)]
+pub enum Join {
+    // Nothing is asked.
+    Any,
+    // Both operands have one width.
+    Equal,
+    // The bits of a constant, field 2 of them from field 1 on, lie in the bit list.
+    InBits,
+    // Each operand has one bit.
+    OneBit,
+    // Bits from field 2 up to field 1 lie in the operand.
+    Part,
+    // The first operand has one bit, the others have one width.
+    Choice,
+    // The operand has the index width of the array in field 1; field 4 pairs from field 3 on in the side list have its index and cell widths.
+    Chain,
+    // Field 4 arguments from field 3 on in the side list are earlier rows.
+    Arguments,
+}
+
+// Where a row's width comes from.
+#[derive(Clone, Copy, PartialEq, Eq)]
+pub enum WidthFrom {
+    // One bit, the first operand's width: the two of most rows.
+    One,
+    First,
+    // The second operand's width.
+    Second,
+    // The sum of two operands' widths.
+    Sum,
+    // The operand's width and field 2.
+    Extended,
+    // Field 1, field 2.
+    Field1,
+    Field2,
+    // As many bits as stand from field 2 up to field 1.
+    Part,
+    // The cell width of the array in field 1.
+    Cell,
+}
+
 #[derive(Clone, Copy)]
-pub struct Line(pub u8, pub u8, pub u8);
+pub struct Line {
+    pub operands: Operands,
+    pub join: Join,
+    pub source: WidthFrom,
+}
+
+// A line by the names of its variants.
+macro_rules! facts {
+    ($operands:ident, $join:ident, $source:ident) => {
+        Line {
+            operands: Operands::$operands,
+            join: Join::$join,
+            source: WidthFrom::$source,
+        }
+    };
+}
 
 const TABLE: [Line; 39] = [
-    Line(operand::NONE, join::ANY, source::FIELD1), // 0 Var
-    Line(operand::NONE, join::IN_BITS, source::FIELD2), // 1 Const
-    Line(operand::TWO, join::EQUAL, source::FIRST), // 2 Add
-    Line(operand::TWO, join::EQUAL, source::FIRST), // 3 Sub
-    Line(operand::TWO, join::EQUAL, source::FIRST), // 4 Mul
-    Line(operand::TWO, join::EQUAL, source::FIRST), // 5 Udiv
-    Line(operand::TWO, join::EQUAL, source::FIRST), // 6 Urem
-    Line(operand::TWO, join::EQUAL, source::FIRST), // 7 And
-    Line(operand::TWO, join::EQUAL, source::FIRST), // 8 Or
-    Line(operand::TWO, join::EQUAL, source::FIRST), // 9 Xor
-    Line(operand::TWO, join::EQUAL, source::FIRST), // 10 Shl
-    Line(operand::TWO, join::EQUAL, source::FIRST), // 11 Lshr
-    Line(operand::TWO, join::EQUAL, source::FIRST), // 12 Ashr
-    Line(operand::TWO, join::EQUAL, source::FIRST), // 13 Rotr
-    Line(operand::FIELD3, join::PART, source::PART), // 14 Extract
-    Line(operand::TWO, join::ANY, source::SUM), // 15 Concat
-    Line(operand::FIELD1, join::ANY, source::EXTENDED), // 16 ZeroExt
-    Line(operand::FIELD1, join::ANY, source::EXTENDED), // 17 SignExt
-    Line(operand::THREE, join::CHOICE, source::SECOND), // 18 Ite
-    Line(operand::TWO, join::EQUAL, source::ONE), // 19 Eq
-    Line(operand::TWO, join::EQUAL, source::ONE), // 20 Ne
-    Line(operand::TWO, join::EQUAL, source::ONE), // 21 Ult
-    Line(operand::TWO, join::EQUAL, source::ONE), // 22 Ule
-    Line(operand::TWO, join::EQUAL, source::ONE), // 23 Ugt
-    Line(operand::TWO, join::EQUAL, source::ONE), // 24 Uge
-    Line(operand::TWO, join::EQUAL, source::ONE), // 25 Slt
-    Line(operand::TWO, join::EQUAL, source::ONE), // 26 Sle
-    Line(operand::TWO, join::EQUAL, source::ONE), // 27 Sgt
-    Line(operand::TWO, join::EQUAL, source::ONE), // 28 Sge
-    Line(operand::FIELD1, join::ONE_BIT, source::ONE), // 29 Not
-    Line(operand::TWO, join::ONE_BIT, source::ONE), // 30 BoolAnd
-    Line(operand::TWO, join::ONE_BIT, source::ONE), // 31 BoolOr
-    Line(operand::FIELD1, join::ANY, source::FIRST), // 32 BvNot
-    Line(operand::FIELD1, join::ANY, source::FIRST), // 33 Neg
-    Line(operand::TWO, join::EQUAL, source::FIRST), // 34 Rotl
-    Line(operand::TWO, join::EQUAL, source::FIRST), // 35 Sdiv
-    Line(operand::TWO, join::EQUAL, source::FIRST), // 36 Srem
-    Line(operand::FIELD2, join::CHAIN, source::CELL), // 37 Select
-    Line(operand::NONE, join::ARGUMENTS, source::FIELD2), // 38 Call
+    facts!(Empty, Any, Field1), // 0 Var
+    facts!(Empty, InBits, Field2), // 1 Const
+    facts!(Two, Equal, First), // 2 Add
+    facts!(Two, Equal, First), // 3 Sub
+    facts!(Two, Equal, First), // 4 Mul
+    facts!(Two, Equal, First), // 5 Udiv
+    facts!(Two, Equal, First), // 6 Urem
+    facts!(Two, Equal, First), // 7 And
+    facts!(Two, Equal, First), // 8 Or
+    facts!(Two, Equal, First), // 9 Xor
+    facts!(Two, Equal, First), // 10 Shl
+    facts!(Two, Equal, First), // 11 Lshr
+    facts!(Two, Equal, First), // 12 Ashr
+    facts!(Two, Equal, First), // 13 Rotr
+    facts!(Field3, Part, Part), // 14 Extract
+    facts!(Two, Any, Sum), // 15 Concat
+    facts!(Field1, Any, Extended), // 16 ZeroExt
+    facts!(Field1, Any, Extended), // 17 SignExt
+    facts!(Three, Choice, Second), // 18 Ite
+    facts!(Two, Equal, One), // 19 Eq
+    facts!(Two, Equal, One), // 20 Ne
+    facts!(Two, Equal, One), // 21 Ult
+    facts!(Two, Equal, One), // 22 Ule
+    facts!(Two, Equal, One), // 23 Ugt
+    facts!(Two, Equal, One), // 24 Uge
+    facts!(Two, Equal, One), // 25 Slt
+    facts!(Two, Equal, One), // 26 Sle
+    facts!(Two, Equal, One), // 27 Sgt
+    facts!(Two, Equal, One), // 28 Sge
+    facts!(Field1, OneBit, One), // 29 Not
+    facts!(Two, OneBit, One), // 30 BoolAnd
+    facts!(Two, OneBit, One), // 31 BoolOr
+    facts!(Field1, Any, First), // 32 BvNot
+    facts!(Field1, Any, First), // 33 Neg
+    facts!(Two, Equal, First), // 34 Rotl
+    facts!(Two, Equal, First), // 35 Sdiv
+    facts!(Two, Equal, First), // 36 Srem
+    facts!(Field2, Chain, Cell), // 37 Select
+    facts!(Empty, Arguments, Field2), // 38 Call
 ];
 
 // The whole table: a copy for a pass over many rows, which a constant indexed at each row would be made anew for.

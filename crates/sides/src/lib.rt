@@ -9,11 +9,7 @@ ghost use Rattle.rules.specs.Rule.{has_width, pair_bad, chain_good, arg_bad, arg
 pub fn has_width(ws: &[u64], a: u64, w: u64) -> bool
     ensures test { result ≡ has_width ws.now a w }
 {
-    if ws.len() as u64 <= a {
-        return false;
-    }
-    let i = a as usize;
-    ws[i] == w
+    a < ws.len() as u64 && ws[a as usize] == w
 }
 
 // Pair l breaks the rule.
@@ -22,24 +18,14 @@ pub fn pair_bad(ws: &[u64], side: &[u64], s: usize, l: usize, iw: u64, cw: u64) 
     ensures test { result ≡ pair_bad iw cw ws.now side.now s l }
 {
     let at = s + 2 * l;
-    if !has_width(ws, side[at], iw) {
-        return true;
-    }
-    !has_width(ws, side[at + 1], cw)
+    !has_width(ws, side[at], iw) || !has_width(ws, side[at + 1], cw)
 }
 
 pub fn pairs_wf(ws: &[u64], side: &[u64], s: usize, k: usize, iw: u64, cw: u64) -> bool
     requires { s + 2 * k ≤ length side.now }
     ensures test { result ≡ none (pair_bad iw cw ws.now side.now s) k }
 {
-    let mut l = 0;
-    while l < k {
-        if pair_bad(ws, side, s, l, iw, cw) {
-            return false;
-        }
-        l += 1;
-    }
-    true
+    (0..k).all(|l| !pair_bad(ws, side, s, l, iw, cw))
 }
 
 // The k pairs of a Select from s on.
@@ -50,13 +36,7 @@ pub fn chain_wf(ws: &[u64], side: &[u64], s: u64, k: u64, iw: u64, cw: u64) -> b
         return true;
     }
     let m = side.len() as u64;
-    if m < s {
-        return false;
-    }
-    if (m - s) / 2 < k {
-        return false;
-    }
-    pairs_wf(ws, side, s as usize, k as usize, iw, cw)
+    s <= m && k <= (m - s) / 2 && pairs_wf(ws, side, s as usize, k as usize, iw, cw)
 }
 
 // The k rows from s on in a side list are below n.
@@ -64,14 +44,7 @@ pub fn list_wf(n: u64, side: &[u64], s: usize, k: usize) -> bool
     requires { s + k ≤ length side.now }
     ensures test { result ≡ none (arg_bad n side.now s) k }
 {
-    let mut l = 0;
-    while l < k {
-        if n <= side[s + l] {
-            return false;
-        }
-        l += 1;
-    }
-    true
+    side[s..s + k].iter().all(|a| *a < n)
 }
 
 // The k arguments of a Call from s on.
@@ -82,11 +55,5 @@ pub fn args_wf(ws: &[u64], side: &[u64], s: u64, k: u64) -> bool
         return true;
     }
     let m = side.len() as u64;
-    if m < s {
-        return false;
-    }
-    if m - s < k {
-        return false;
-    }
-    list_wf(ws.len() as u64, side, s as usize, k as usize)
+    s <= m && k <= m - s && list_wf(ws.len() as u64, side, s as usize, k as usize)
 }

@@ -1,28 +1,19 @@
--- The goals that search leaves open. Assumes nothing.
-use native.Mathlib.Nat.{not-suc-le-zero}
-use mathlib.Core.Path.{sym}
-use borrow.Author.Count.{below_more}
+-- The place that std finds. Assumes nothing.
+use mathlib.Core.Path.{◌∙◌, refl}
 use borrow.Author.Rules.{rules}
-use borrow.Author.Tests.{lt-ltb, le-ltb}
-use Rattle.lists.proofs.First.{first-at, first_past}
+use borrow.Author.Tests.{tests}
+use lib.Dec.{ltb}
+use Rattle.std.proofs.lemmas.Iterator.{YieldsList-from_slice}
+use Rattle.std.proofs.lemmas.Iterator.Search.{position_from_yields_List}
+use Rattle.lists.proofs.Search.{first-or-length}
 use Rattle.encoding.specs.Encoding.{bit_bad}
 use Rattle.encoding.proofs.first_bad_bit.Goals as goal
-
-pub loop-i-init : goal.loop-i-init
-loop-i-init c = (search rules, λ j h. absurd (not-suc-le-zero h))
-
-pub returns-then-bits-i-gt1 : goal.returns-then-bits-i-gt1
-returns-then-bits-i-gt1 c = record {
-  position =
-      sym (first-at (bit_bad c.args.bits.now) _ _ c.loop-i-test.true (lt-ltb _ _ c.if-bits-i-gt1.true)
-      c.loop-i.invariant.1);
-}
-
-pub loop-i-preserved : goal.loop-i-preserved
-loop-i-preserved c = (search rules, below_more _ _ c.loop-i.invariant.1 (le-ltb _ _ c.if-bits-i-gt1.false))
 
 pub returns : goal.returns
 returns c = record {
   position =
-      sym (first_past (bit_bad c.args.bits.now) _ _ c.loop-i.invariant.0 c.loop-i-test.false c.loop-i.invariant.1);
+      let bits = c.args.bits.now in
+      let found = position_from_yields_List (λ b. ltb 1 b) _ _ c.position.result c.position.ensures.ran
+      (YieldsList-from_slice _ c.iter.ensures.rest) (λ x b q k. search (rules, tests)) in
+      c.unwrap_or.ensures ∙ first-or-length (λ b. ltb 1 b) 0 (bit_bad bits) bits _ found (λ l h. refl);
 }

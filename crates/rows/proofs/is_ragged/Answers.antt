@@ -1,8 +1,0 @@
--- The remainder by the graph's row length, arm by arm. Assumes nothing.
-use Rattle.rows.proofs.is_ragged.Goals as goal
-
-pub returns-in-Source : goal.returns-in-Source
-returns-in-Source c = record { test = rw c.in-Source.is }
-
-pub returns-in-Target : goal.returns-in-Target
-returns-in-Target c = record { test = rw c.in-Target.is }

@@ -1,9 +1,0 @@
--- The rule lets the width of the source pass, or there is none. Assumes nothing.
-use Rattle.rules.proofs.Rule.{passed, stopped}
-use Rattle.rules.proofs.width1.Goals as goal
-
-pub returns-then-joins1 : goal.returns-then-joins1
-returns-then-joins1 c = record { width = passed _ c.joins1.ensures.test c.if-joins1.true _ _ c.width_from1.ensures.width }
-
-pub returns-else-joins1 : goal.returns-else-joins1
-returns-else-joins1 c = record { width = stopped _ c.joins1.ensures.test c.if-joins1.false _ }
