@@ -9,21 +9,29 @@ pub fn bv_add(w: u64, a: u64, b: u64) -> u64
     requires { w ≤ 64 }
     ensures value { result ≡ bvadd w a b }
 {
-    bv::low(w, std::num::wrapping_add_u64(a, b))
+    bv::low(w, a.wrapping_add(b))
 }
 
 pub fn bv_sub(w: u64, a: u64, b: u64) -> u64
     requires { (w ≤ 64) × (b < 2 ^ w) }
     ensures value { result ≡ bvsub w a b }
 {
-    bv::low(w, std::num::wrapping_sub_u64(a, b))
+    bv::low(w, a.wrapping_sub(b))
 }
 
 pub fn bv_neg(w: u64, a: u64) -> u64
     requires { (w ≤ 64) × (a < 2 ^ w) }
     ensures value { result ≡ bvneg w a }
 {
-    bv::low(w, std::num::wrapping_sub_u64(0, a))
+    bv::low(w, a.wrapping_neg())
+}
+
+// ---- products
+pub fn bv_mul(w: u64, a: u64, b: u64) -> u64
+    requires { w ≤ 64 }
+    ensures value { result ≡ bvmul w a b }
+{
+    bv::low(w, a.wrapping_mul(b))
 }
 
 // ---- bounds
@@ -31,8 +39,7 @@ pub fn bv_neg(w: u64, a: u64) -> u64
 pub fn value_fits(w: u64, x: u64) -> bool
     ensures value { result ≡ nat_lt x (2 ^ w) }
 {
-    let zeros = u64::leading_zeros(x) as u64;
-    64 - zeros <= w
+    64 - u64::from(x.leading_zeros()) <= w
 }
 
 // ---- parts
@@ -66,26 +73,4 @@ pub fn bv_sign_extend(w: u64, n: u64, a: u64) -> u64
         return bv::ones(w + n) - bv::ones(w) + a;
     }
     a
-}
-
-// ---- products
-// The low 64 bits of a product, by halves of 32 bits.
-fn product(a: u64, b: u64) -> u64
-    ensures low { result ≡ (a * b) % 2 ^ 64 }
-{
-    let a0 = a % 0x1_0000_0000;
-    let a1 = a / 0x1_0000_0000;
-    let b0 = b % 0x1_0000_0000;
-    let b1 = b / 0x1_0000_0000;
-    let m1 = (a1 * b0) % 0x1_0000_0000;
-    let m2 = (a0 * b1) % 0x1_0000_0000;
-    let mid = (m1 + m2) % 0x1_0000_0000;
-    std::num::wrapping_add_u64(a0 * b0, mid * 0x1_0000_0000)
-}
-
-pub fn bv_mul(w: u64, a: u64, b: u64) -> u64
-    requires { w ≤ 64 }
-    ensures value { result ≡ bvmul w a b }
-{
-    bv::low(w, product(a, b))
 }

@@ -4,4 +4,4 @@ use Rattle.bv.proofs.Word.{mod-under}
 use Rattle.arith.proofs.bv_add.Goals as goal
 
 pub returns : goal.returns
-returns c = record { value = c.low.ensures.low ∙ rw c.wrapping_add_u64.ensures.value (mod-under _ _ c.requires) }
+returns c = record { value = c.low.ensures.low ∙ mod-under _ _ c.requires }
