@@ -2,37 +2,30 @@
 #![tactic(auto)]
 
 ghost use Rattle.std.specs.Prelude.{◌≡◌, ◌<◌, ◌≤◌, ◌^◌};
-ghost use Rattle.bv.specs.Bits.{of_bool};
 ghost use Rattle.bv.specs.Bv.{by_signs, bvult, bvule, bvugt, bvuge, bvslt, bvsle, bvsgt, bvsge, equal, distinct, ite};
-
-fn of_bool(t: bool) -> u64
-    ensures bit { result ≡ of_bool t }
-{
-    if t { 1 } else { 0 }
-}
 
 pub fn bv_equal(a: u64, b: u64) -> u64
     ensures value { result ≡ equal a b }
 {
-    of_bool(a == b)
+    u64::from(a == b)
 }
 
 pub fn bv_distinct(a: u64, b: u64) -> u64
     ensures value { result ≡ distinct a b }
 {
-    if a == b { 0 } else { 1 }
+    u64::from(a != b)
 }
 
 pub fn bv_ult(a: u64, b: u64) -> u64
     ensures value { result ≡ bvult a b }
 {
-    of_bool(a < b)
+    u64::from(a < b)
 }
 
 pub fn bv_ule(a: u64, b: u64) -> u64
     ensures value { result ≡ bvule a b }
 {
-    of_bool(a <= b)
+    u64::from(a <= b)
 }
 
 pub fn bv_ugt(a: u64, b: u64) -> u64
@@ -52,14 +45,12 @@ fn by_signs(w: u64, a: u64, b: u64, same: u64) -> u64
     requires { (0 < w) × (w ≤ 64) × (a < 2 ^ w) × (b < 2 ^ w) }
     ensures value { result ≡ by_signs w a b same 1 0 same }
 {
-    let second = bv::is_negative(w, b);
-    if bv::is_negative(w, a) {
-        if second {
-            return same;
-        }
-        return 1;
+    let first = bv::is_negative(w, a);
+    if first == bv::is_negative(w, b) {
+        same
+    } else {
+        u64::from(first)
     }
-    if second { 0 } else { same }
 }
 
 pub fn bv_slt(w: u64, a: u64, b: u64) -> u64

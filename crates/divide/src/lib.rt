@@ -49,15 +49,7 @@ pub fn back(w: u64, z: i64) -> u64
 pub fn overflows(w: u64, a: u64, b: u64) -> bool
     ensures test { result ≡ overflow w a b }
 {
-    if w == 64 {
-        if a == 0x8000_0000_0000_0000 {
-            b == 0xffff_ffff_ffff_ffff
-        } else {
-            false
-        }
-    } else {
-        false
-    }
+    w == 64 && a == 0x8000_0000_0000_0000 && b == 0xffff_ffff_ffff_ffff
 }
 
 // Towards 0. By 0: 1 for a negative dividend, else all ones.
