@@ -92,11 +92,7 @@ pub fn evaluate(g: &[u64], bits: &[u8], given: &[u64], ws: &[u64], vs: &mut [u64
     ensures list { vs.new ≡ numbers_to g.now bits.now given.now (length ws.now) ++ drop
         (length ws.now) vs.old }
 {
-    let n = ws.len();
-    let mut i = 0;
-    while i < n {
-        let v = row_value(g, bits, ws, &vs[..i], given[i], i);
-        vs[i] = v;
-        i += 1;
+    for i in 0..ws.len() {
+        vs[i] = row_value(g, bits, ws, &vs[..i], given[i], i);
     }
 }

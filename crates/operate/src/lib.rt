@@ -17,8 +17,7 @@ pub fn un_value(t: u64, w: u64, a: u64) -> u64
     ensures value { result ≡ op_number t [] (val w a ∷ []) }
 {
     match t {
-        tag::NOT => bitwise::bv_not(w, a),
-        tag::BV_NOT => bitwise::bv_not(w, a),
+        tag::NOT | tag::BV_NOT => bitwise::bv_not(w, a),
         _ => arith::bv_neg(w, a),
     }
 }
@@ -164,22 +163,14 @@ pub fn bin_value(t: u64, u: u64, a: u64, v: u64, b: u64) -> u64
 }
 
 // ---- constants
-fn wide(x: u8) -> u64
-    ensures value { result ≡ x }
-{
-    x as u64
-}
-
 // From the highest bit down; the list has the lowest first.
 pub fn const_value(bits: &[u8], s: usize, w: usize) -> u64
     requires { (s + w ≤ length bits.now) × (w ≤ 64) × ((k : ℕ) → get_or bits.now k 0 < 2) }
     ensures value { result ≡ const_number bits.now s w }
 {
-    let mut k = w;
     let mut v = 0;
-    while 0 < k {
-        k -= 1;
-        v = 2 * v + wide(bits[s + k]);
+    for k in (0..w).rev() {
+        v = 2 * v + u64::from(bits[s + k]);
     }
     v
 }
