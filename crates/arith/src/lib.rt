@@ -1,37 +1,42 @@
 // Sums, products and parts of bit vectors of width 1 to 64, as words.
 #![tactic(auto)]
 
-ghost use Rattle.std.specs.Prelude.{◌≡◌, ◌+◌, ◌*◌, ◌%◌, ◌^◌, ◌<◌, ◌≤◌, nat_lt};
+ghost use Rattle.std.specs.Prelude.{◌≡◌, ◌+◌, ◌-◌, ◌^◌, ◌<◌, ◌≤◌, nat_lt};
 ghost use Rattle.bv.specs.Bv.{bvneg, bvadd, bvsub, bvmul, concat, extract, zero-extend, sign-extend};
 
+use bv::BitVec;
+
 // ---- sums
-pub fn bv_add(w: u64, a: u64, b: u64) -> u64
-    requires { w ≤ 64 }
-    ensures value { result ≡ bvadd w a b }
+pub fn bv_add(a: BitVec, b: BitVec) -> BitVec
+    requires { a.width ≡ b.width }
+    ensures value { result.number ≡ bvadd a.width a.number b.number }
+    ensures width { result.width ≡ a.width }
 {
-    bv::low(w, a.wrapping_add(b))
+    BitVec::nat2bv(a.width, a.number.wrapping_add(b.number))
 }
 
-pub fn bv_sub(w: u64, a: u64, b: u64) -> u64
-    requires { (w ≤ 64) × (b < 2 ^ w) }
-    ensures value { result ≡ bvsub w a b }
+pub fn bv_sub(a: BitVec, b: BitVec) -> BitVec
+    requires { a.width ≡ b.width }
+    ensures value { result.number ≡ bvsub a.width a.number b.number }
+    ensures width { result.width ≡ a.width }
 {
-    bv::low(w, a.wrapping_sub(b))
+    BitVec::nat2bv(a.width, a.number.wrapping_sub(b.number))
 }
 
-pub fn bv_neg(w: u64, a: u64) -> u64
-    requires { (w ≤ 64) × (a < 2 ^ w) }
-    ensures value { result ≡ bvneg w a }
+pub fn bv_neg(a: BitVec) -> BitVec
+    ensures value { result.number ≡ bvneg a.width a.number }
+    ensures width { result.width ≡ a.width }
 {
-    bv::low(w, a.wrapping_neg())
+    BitVec::nat2bv(a.width, a.number.wrapping_neg())
 }
 
 // ---- products
-pub fn bv_mul(w: u64, a: u64, b: u64) -> u64
-    requires { w ≤ 64 }
-    ensures value { result ≡ bvmul w a b }
+pub fn bv_mul(a: BitVec, b: BitVec) -> BitVec
+    requires { a.width ≡ b.width }
+    ensures value { result.number ≡ bvmul a.width a.number b.number }
+    ensures width { result.width ≡ a.width }
 {
-    bv::low(w, a.wrapping_mul(b))
+    BitVec::nat2bv(a.width, a.number.wrapping_mul(b.number))
 }
 
 // ---- bounds
@@ -43,6 +48,7 @@ pub fn value_fits(w: u64, x: u64) -> bool
 }
 
 // ---- parts
+// Of any word: no bound on it is asked for.
 pub fn bv_extract(i: u64, j: u64, a: u64) -> u64
     requires { (j ≤ i) × (i < 64) }
     ensures value { result ≡ extract i j a }
@@ -50,27 +56,44 @@ pub fn bv_extract(i: u64, j: u64, a: u64) -> u64
     bv::low(i - j + 1, a >> j)
 }
 
-// The first operand high; the second has width v (`concat-word` bounds the whole by the widths).
-pub fn bv_concat(v: u64, a: u64, b: u64) -> u64
-    requires { (v < 64) × (a * 2 ^ v + b < 2 ^ 64) }
-    ensures value { result ≡ concat v a b }
+// The first operand high.
+pub fn bv_concat(a: BitVec, b: BitVec) -> BitVec
+    requires { a.width + b.width ≤ 64 }
+    ensures value { result.number ≡ concat b.width a.number b.number }
+    ensures width { result.width ≡ a.width + b.width }
 {
-    (a << v) + b
+    BitVec {
+        width: a.width + b.width,
+        number: (a.number << b.width) + b.number,
+    }
 }
 
-pub fn bv_zero_extend(w: u64, a: u64) -> u64
-    ensures value { result ≡ zero-extend w a }
+pub fn bv_zero_extend(n: u64, a: BitVec) -> BitVec
+    requires { a.width + n ≤ 64 }
+    ensures value { result.number ≡ zero-extend a.width a.number }
+    ensures width { result.width ≡ a.width + n }
 {
-    a
+    BitVec {
+        width: a.width + n,
+        number: a.number,
+    }
 }
 
 // Copies of the sign are the ones of width w + n above those of width w; w + n may be 64 and n may be 0.
-pub fn bv_sign_extend(w: u64, n: u64, a: u64) -> u64
-    requires { (0 < w) × (w + n ≤ 64) × (a < 2 ^ w) }
-    ensures value { result ≡ sign-extend w n a }
+pub fn bv_sign_extend(n: u64, a: BitVec) -> BitVec
+    requires { a.width + n ≤ 64 }
+    ensures value { result.number ≡ sign-extend a.width n a.number }
+    ensures width { result.width ≡ a.width + n }
 {
-    if bv::is_negative(w, a) {
-        return bv::ones(w + n) - bv::ones(w) + a;
+    let width = a.width + n;
+    if a.is_negative() {
+        return BitVec {
+            width,
+            number: bv::ones(width) - bv::ones(a.width) + a.number,
+        };
     }
-    a
+    BitVec {
+        width,
+        number: a.number,
+    }
 }
