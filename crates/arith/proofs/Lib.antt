@@ -3,4 +3,3 @@ pub mod Sums
 pub mod Highest
 pub mod Fits
 pub mod Parts
-pub mod Halves

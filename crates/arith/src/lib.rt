@@ -1,29 +1,42 @@
 // Sums, products and parts of bit vectors of width 1 to 64, as words.
 #![tactic(auto)]
 
-ghost use Rattle.std.specs.Prelude.{◌≡◌, ◌+◌, ◌*◌, ◌%◌, ◌^◌, ◌<◌, ◌≤◌, nat_lt};
+ghost use Rattle.std.specs.Prelude.{◌≡◌, ◌+◌, ◌-◌, ◌^◌, ◌<◌, ◌≤◌, nat_lt};
 ghost use Rattle.bv.specs.Bv.{bvneg, bvadd, bvsub, bvmul, concat, extract, zero-extend, sign-extend};
 
+use bv::BitVec;
+
 // ---- sums
-pub fn bv_add(w: u64, a: u64, b: u64) -> u64
-    requires { w ≤ 64 }
-    ensures value { result ≡ bvadd w a b }
+pub fn bv_add(a: BitVec, b: BitVec) -> BitVec
+    requires { a.width ≡ b.width }
+    ensures value { result.number ≡ bvadd a.width a.number b.number }
+    ensures width { result.width ≡ a.width }
 {
-    bv::low(w, std::num::wrapping_add_u64(a, b))
+    BitVec::nat2bv(a.width, a.number.wrapping_add(b.number))
 }
 
-pub fn bv_sub(w: u64, a: u64, b: u64) -> u64
-    requires { (w ≤ 64) × (b < 2 ^ w) }
-    ensures value { result ≡ bvsub w a b }
+pub fn bv_sub(a: BitVec, b: BitVec) -> BitVec
+    requires { a.width ≡ b.width }
+    ensures value { result.number ≡ bvsub a.width a.number b.number }
+    ensures width { result.width ≡ a.width }
 {
-    bv::low(w, std::num::wrapping_sub_u64(a, b))
+    BitVec::nat2bv(a.width, a.number.wrapping_sub(b.number))
 }
 
-pub fn bv_neg(w: u64, a: u64) -> u64
-    requires { (w ≤ 64) × (a < 2 ^ w) }
-    ensures value { result ≡ bvneg w a }
+pub fn bv_neg(a: BitVec) -> BitVec
+    ensures value { result.number ≡ bvneg a.width a.number }
+    ensures width { result.width ≡ a.width }
 {
-    bv::low(w, std::num::wrapping_sub_u64(0, a))
+    BitVec::nat2bv(a.width, a.number.wrapping_neg())
+}
+
+// ---- products
+pub fn bv_mul(a: BitVec, b: BitVec) -> BitVec
+    requires { a.width ≡ b.width }
+    ensures value { result.number ≡ bvmul a.width a.number b.number }
+    ensures width { result.width ≡ a.width }
+{
+    BitVec::nat2bv(a.width, a.number.wrapping_mul(b.number))
 }
 
 // ---- bounds
@@ -31,11 +44,11 @@ pub fn bv_neg(w: u64, a: u64) -> u64
 pub fn value_fits(w: u64, x: u64) -> bool
     ensures value { result ≡ nat_lt x (2 ^ w) }
 {
-    let zeros = u64::leading_zeros(x) as u64;
-    64 - zeros <= w
+    64 - u64::from(x.leading_zeros()) <= w
 }
 
 // ---- parts
+// Of any word: no bound on it is asked for.
 pub fn bv_extract(i: u64, j: u64, a: u64) -> u64
     requires { (j ≤ i) × (i < 64) }
     ensures value { result ≡ extract i j a }
@@ -43,49 +56,44 @@ pub fn bv_extract(i: u64, j: u64, a: u64) -> u64
     bv::low(i - j + 1, a >> j)
 }
 
-// The first operand high; the second has width v (`concat-word` bounds the whole by the widths).
-pub fn bv_concat(v: u64, a: u64, b: u64) -> u64
-    requires { (v < 64) × (a * 2 ^ v + b < 2 ^ 64) }
-    ensures value { result ≡ concat v a b }
+// The first operand high.
+pub fn bv_concat(a: BitVec, b: BitVec) -> BitVec
+    requires { a.width + b.width ≤ 64 }
+    ensures value { result.number ≡ concat b.width a.number b.number }
+    ensures width { result.width ≡ a.width + b.width }
 {
-    (a << v) + b
+    BitVec {
+        width: a.width + b.width,
+        number: (a.number << b.width) + b.number,
+    }
 }
 
-pub fn bv_zero_extend(w: u64, a: u64) -> u64
-    ensures value { result ≡ zero-extend w a }
+pub fn bv_zero_extend(n: u64, a: BitVec) -> BitVec
+    requires { a.width + n ≤ 64 }
+    ensures value { result.number ≡ zero-extend a.width a.number }
+    ensures width { result.width ≡ a.width + n }
 {
-    a
+    BitVec {
+        width: a.width + n,
+        number: a.number,
+    }
 }
 
 // Copies of the sign are the ones of width w + n above those of width w; w + n may be 64 and n may be 0.
-pub fn bv_sign_extend(w: u64, n: u64, a: u64) -> u64
-    requires { (0 < w) × (w + n ≤ 64) × (a < 2 ^ w) }
-    ensures value { result ≡ sign-extend w n a }
+pub fn bv_sign_extend(n: u64, a: BitVec) -> BitVec
+    requires { a.width + n ≤ 64 }
+    ensures value { result.number ≡ sign-extend a.width n a.number }
+    ensures width { result.width ≡ a.width + n }
 {
-    if bv::is_negative(w, a) {
-        return bv::ones(w + n) - bv::ones(w) + a;
+    let width = a.width + n;
+    if a.is_negative() {
+        return BitVec {
+            width,
+            number: bv::ones(width) - bv::ones(a.width) + a.number,
+        };
     }
-    a
-}
-
-// ---- products
-// The low 64 bits of a product, by halves of 32 bits.
-fn product(a: u64, b: u64) -> u64
-    ensures low { result ≡ (a * b) % 2 ^ 64 }
-{
-    let a0 = a % 0x1_0000_0000;
-    let a1 = a / 0x1_0000_0000;
-    let b0 = b % 0x1_0000_0000;
-    let b1 = b / 0x1_0000_0000;
-    let m1 = (a1 * b0) % 0x1_0000_0000;
-    let m2 = (a0 * b1) % 0x1_0000_0000;
-    let mid = (m1 + m2) % 0x1_0000_0000;
-    std::num::wrapping_add_u64(a0 * b0, mid * 0x1_0000_0000)
-}
-
-pub fn bv_mul(w: u64, a: u64, b: u64) -> u64
-    requires { w ≤ 64 }
-    ensures value { result ≡ bvmul w a b }
-{
-    bv::low(w, product(a, b))
+    BitVec {
+        width,
+        number: a.number,
+    }
 }

@@ -1,95 +1,106 @@
-// Comparisons of bit vectors of width 1 to 64, as words, each 1 or 0; the choice by one.
+// Comparisons of bit vectors of width 1 to 64, in words, each a bit; the choice by one.
 #![tactic(auto)]
 
-ghost use Rattle.std.specs.Prelude.{◌≡◌, ◌<◌, ◌≤◌, ◌^◌};
-ghost use Rattle.bv.specs.Bits.{of_bool};
+ghost use Rattle.std.specs.Prelude.{◌≡◌};
 ghost use Rattle.bv.specs.Bv.{by_signs, bvult, bvule, bvugt, bvuge, bvslt, bvsle, bvsgt, bvsge, equal, distinct, ite};
 
-fn of_bool(t: bool) -> u64
-    ensures bit { result ≡ of_bool t }
+use bv::BitVec;
+
+pub fn bv_equal(a: BitVec, b: BitVec) -> BitVec
+    requires { a.width ≡ b.width }
+    ensures value { result.number ≡ equal a.number b.number }
+    ensures width { result.width ≡ 1 }
 {
-    if t { 1 } else { 0 }
+    BitVec::of_bool(a.number == b.number)
 }
 
-pub fn bv_equal(a: u64, b: u64) -> u64
-    ensures value { result ≡ equal a b }
+pub fn bv_distinct(a: BitVec, b: BitVec) -> BitVec
+    requires { a.width ≡ b.width }
+    ensures value { result.number ≡ distinct a.number b.number }
+    ensures width { result.width ≡ 1 }
 {
-    of_bool(a == b)
+    BitVec::of_bool(a.number != b.number)
 }
 
-pub fn bv_distinct(a: u64, b: u64) -> u64
-    ensures value { result ≡ distinct a b }
+pub fn bv_ult(a: BitVec, b: BitVec) -> BitVec
+    requires { a.width ≡ b.width }
+    ensures value { result.number ≡ bvult a.number b.number }
+    ensures width { result.width ≡ 1 }
 {
-    if a == b { 0 } else { 1 }
+    BitVec::of_bool(a.number < b.number)
 }
 
-pub fn bv_ult(a: u64, b: u64) -> u64
-    ensures value { result ≡ bvult a b }
+pub fn bv_ule(a: BitVec, b: BitVec) -> BitVec
+    requires { a.width ≡ b.width }
+    ensures value { result.number ≡ bvule a.number b.number }
+    ensures width { result.width ≡ 1 }
 {
-    of_bool(a < b)
+    BitVec::of_bool(a.number <= b.number)
 }
 
-pub fn bv_ule(a: u64, b: u64) -> u64
-    ensures value { result ≡ bvule a b }
-{
-    of_bool(a <= b)
-}
-
-pub fn bv_ugt(a: u64, b: u64) -> u64
-    ensures value { result ≡ bvugt a b }
+pub fn bv_ugt(a: BitVec, b: BitVec) -> BitVec
+    requires { a.width ≡ b.width }
+    ensures value { result.number ≡ bvugt a.number b.number }
+    ensures width { result.width ≡ 1 }
 {
     bv_ult(b, a)
 }
 
-pub fn bv_uge(a: u64, b: u64) -> u64
-    ensures value { result ≡ bvuge a b }
+pub fn bv_uge(a: BitVec, b: BitVec) -> BitVec
+    requires { a.width ≡ b.width }
+    ensures value { result.number ≡ bvuge a.number b.number }
+    ensures width { result.width ≡ 1 }
 {
     bv_ule(b, a)
 }
 
 // The answer of a signed comparison: the unsigned one where the signs agree, else that the first is negative.
-fn by_signs(w: u64, a: u64, b: u64, same: u64) -> u64
-    requires { (0 < w) × (w ≤ 64) × (a < 2 ^ w) × (b < 2 ^ w) }
-    ensures value { result ≡ by_signs w a b same 1 0 same }
+fn by_signs(a: BitVec, b: BitVec, same: BitVec) -> BitVec
+    requires { (a.width ≡ b.width) × (same.width ≡ 1) }
+    ensures value { result.number ≡ by_signs a.width a.number b.number same.number 1 0 same.number }
+    ensures width { result.width ≡ 1 }
 {
-    let second = bv::is_negative(w, b);
-    if bv::is_negative(w, a) {
-        if second {
-            return same;
-        }
-        return 1;
+    let first = a.is_negative();
+    if first == b.is_negative() {
+        same
+    } else {
+        BitVec::of_bool(first)
     }
-    if second { 0 } else { same }
 }
 
-pub fn bv_slt(w: u64, a: u64, b: u64) -> u64
-    requires { (0 < w) × (w ≤ 64) × (a < 2 ^ w) × (b < 2 ^ w) }
-    ensures value { result ≡ bvslt w a b }
+pub fn bv_slt(a: BitVec, b: BitVec) -> BitVec
+    requires { a.width ≡ b.width }
+    ensures value { result.number ≡ bvslt a.width a.number b.number }
+    ensures width { result.width ≡ 1 }
 {
-    by_signs(w, a, b, bv_ult(a, b))
+    by_signs(a, b, bv_ult(a, b))
 }
 
-pub fn bv_sle(w: u64, a: u64, b: u64) -> u64
-    requires { (0 < w) × (w ≤ 64) × (a < 2 ^ w) × (b < 2 ^ w) }
-    ensures value { result ≡ bvsle w a b }
+pub fn bv_sle(a: BitVec, b: BitVec) -> BitVec
+    requires { a.width ≡ b.width }
+    ensures value { result.number ≡ bvsle a.width a.number b.number }
+    ensures width { result.width ≡ 1 }
 {
-    by_signs(w, a, b, bv_ule(a, b))
+    by_signs(a, b, bv_ule(a, b))
 }
 
-pub fn bv_sgt(w: u64, a: u64, b: u64) -> u64
-    requires { (0 < w) × (w ≤ 64) × (a < 2 ^ w) × (b < 2 ^ w) }
-    ensures value { result ≡ bvsgt w a b }
+pub fn bv_sgt(a: BitVec, b: BitVec) -> BitVec
+    requires { a.width ≡ b.width }
+    ensures value { result.number ≡ bvsgt a.width a.number b.number }
+    ensures width { result.width ≡ 1 }
 {
-    bv_slt(w, b, a)
+    bv_slt(b, a)
 }
 
-pub fn bv_sge(w: u64, a: u64, b: u64) -> u64
-    requires { (0 < w) × (w ≤ 64) × (a < 2 ^ w) × (b < 2 ^ w) }
-    ensures value { result ≡ bvsge w a b }
+pub fn bv_sge(a: BitVec, b: BitVec) -> BitVec
+    requires { a.width ≡ b.width }
+    ensures value { result.number ≡ bvsge a.width a.number b.number }
+    ensures width { result.width ≡ 1 }
 {
-    bv_sle(w, b, a)
+    bv_sle(b, a)
 }
 
+// Of any words: the choice asks for no bound on them.
 pub fn bv_ite(c: u64, a: u64, b: u64) -> u64
     ensures value { result ≡ ite c a b }
 {

@@ -1,97 +1,109 @@
 // Division and remainder of bit vectors, unsigned and signed.
 #![tactic(auto)]
 
-ghost use Rattle.std.specs.Prelude.{◌≡◌, ◌<◌, ◌≤◌, ◌^◌};
+ghost use Rattle.std.specs.Prelude.{◌≡◌, ◌<◌, ◌≤◌};
 ghost use Rattle.bv.specs.Bv.{bvudiv, bvurem, bvsdiv, bvsrem};
 ghost use Rattle.divide.specs.TwosComplement.{to_int, of_int, overflow};
 
+use bv::BitVec;
+
 // By 0: all ones.
-pub fn bv_udiv(w: u64, a: u64, b: u64) -> u64
-    requires { (0 < w) × (w ≤ 64) × (a < 2 ^ w) × (b < 2 ^ w) }
-    ensures value { result ≡ bvudiv w a b }
+pub fn bv_udiv(a: BitVec, b: BitVec) -> BitVec
+    requires { a.width ≡ b.width }
+    ensures value { result.number ≡ bvudiv a.width a.number b.number }
+    ensures width { result.width ≡ a.width }
 {
-    if b == 0 { bv::ones(w) } else { a / b }
+    let number = a.number.checked_div(b.number).unwrap_or(bv::ones(a.width));
+    BitVec {
+        width: a.width,
+        number,
+    }
 }
 
 // By 0: the dividend.
-pub fn bv_urem(w: u64, a: u64, b: u64) -> u64
-    requires { (0 < w) × (w ≤ 64) × (a < 2 ^ w) × (b < 2 ^ w) }
-    ensures value { result ≡ bvurem w a b }
+pub fn bv_urem(a: BitVec, b: BitVec) -> BitVec
+    requires { a.width ≡ b.width }
+    ensures value { result.number ≡ bvurem a.width a.number b.number }
+    ensures width { result.width ≡ a.width }
 {
-    if b == 0 { a } else { a % b }
-}
-
-// The signed number that a word stands for.
-pub fn signed(w: u64, a: u64) -> i64
-    requires { (0 < w) × (w ≤ 64) × (a < 2 ^ w) }
-    ensures reads { result ≡ to_int w a }
-{
-    if bv::is_negative(w, a) {
-        -1 - ((bv::ones(w) - a) as i64)
-    } else {
-        a as i64
+    let number = a.number.checked_rem(b.number).unwrap_or(a.number);
+    BitVec {
+        width: a.width,
+        number,
     }
 }
 
-// A signed number modulo 2 ^ w.
-pub fn back(w: u64, z: i64) -> u64
-    requires { w ≤ 64 }
-    ensures word { result ≡ of_int w z }
+// The signed number that a bit vector stands for.
+pub fn signed(a: BitVec) -> i64
+    ensures reads { result ≡ to_int a.width a.number }
+{
+    if a.is_negative() {
+        -1 - ((bv::ones(a.width) - a.number) as i64)
+    } else {
+        a.number as i64
+    }
+}
+
+// A signed number modulo 2 ^ width.
+pub fn back(width: u64, z: i64) -> BitVec
+    requires { (0 < width) × (width ≤ 64) }
+    ensures word { result.number ≡ of_int width z }
+    ensures width { result.width ≡ width }
 {
     if z < 0 {
-        bv::ones(w) - bv::low(w, (-1 - z) as u64)
-    } else {
-        bv::low(w, z as u64)
+        return BitVec {
+            width,
+            number: bv::ones(width) - bv::low(width, (-1 - z) as u64),
+        };
     }
+    BitVec::nat2bv(width, z as u64)
 }
 
 // The least i64 by minus one, whose quotient is no i64.
-pub fn overflows(w: u64, a: u64, b: u64) -> bool
-    ensures test { result ≡ overflow w a b }
+pub fn overflows(a: BitVec, b: BitVec) -> bool
+    ensures test { result ≡ overflow a.width a.number b.number }
 {
-    if w == 64 {
-        if a == 0x8000_0000_0000_0000 {
-            b == 0xffff_ffff_ffff_ffff
-        } else {
-            false
-        }
-    } else {
-        false
-    }
+    a.width == 64 && a.number == 0x8000_0000_0000_0000 && b.number == 0xffff_ffff_ffff_ffff
 }
 
 // Towards 0. By 0: 1 for a negative dividend, else all ones.
-pub fn bv_sdiv(w: u64, a: u64, b: u64) -> u64
-    requires { (0 < w) × (w ≤ 64) × (a < 2 ^ w) × (b < 2 ^ w) }
-    ensures value { result ≡ bvsdiv w a b }
+pub fn bv_sdiv(a: BitVec, b: BitVec) -> BitVec
+    requires { a.width ≡ b.width }
+    ensures value { result.number ≡ bvsdiv a.width a.number b.number }
+    ensures width { result.width ≡ a.width }
 {
-    if b == 0 {
-        if bv::is_negative(w, a) {
-            1
-        } else {
-            bv::ones(w)
+    if b.number == 0 {
+        if a.is_negative() {
+            return BitVec {
+                width: a.width,
+                number: 1,
+            };
         }
-    } else {
-        if overflows(w, a, b) {
-            a
-        } else {
-            back(w, signed(w, a) / signed(w, b))
-        }
+        return BitVec {
+            width: a.width,
+            number: bv::ones(a.width),
+        };
     }
+    if overflows(a, b) {
+        return a; // 2 ^ 63 again
+    }
+    back(a.width, signed(a) / signed(b))
 }
 
 // The dividend's sign. By 0: the dividend.
-pub fn bv_srem(w: u64, a: u64, b: u64) -> u64
-    requires { (0 < w) × (w ≤ 64) × (a < 2 ^ w) × (b < 2 ^ w) }
-    ensures value { result ≡ bvsrem w a b }
+pub fn bv_srem(a: BitVec, b: BitVec) -> BitVec
+    requires { a.width ≡ b.width }
+    ensures value { result.number ≡ bvsrem a.width a.number b.number }
+    ensures width { result.width ≡ a.width }
 {
-    if b == 0 {
-        a
-    } else {
-        if overflows(w, a, b) {
-            0
-        } else {
-            back(w, signed(w, a) % signed(w, b))
-        }
+    if b.number == 0 {
+        return a;
     }
+    if overflows(a, b) {
+        return BitVec {
+            width: a.width,
+            number: 0,
+        };
+    }
+    back(a.width, signed(a) % signed(b))
 }

@@ -8,52 +8,24 @@ ghost use Rattle.rows.specs.declared.Graph.{Graph};
 ghost use Rattle.rows.specs.Row.{row_count, row_at};
 ghost use Rattle.rows.specs.Tags.{is_un, is_extend};
 ghost use Rattle.rows.specs.Node.{node_of};
-ghost use Rattle.value.specs.Val.{nat};
+ghost use Rattle.value.specs.Val.{val, nat};
 ghost use Rattle.value.specs.Operate.{op_number};
 ghost use Rattle.value.specs.Graph.{numbers_to, node_value};
 ghost use Rattle.evaluate.specs.Ready.{Ready, lookup, Evaluable};
 
+use bv::BitVec;
 use rows::{Graph, Node};
 
-// The operators by shape, on the widths and numbers of their operands' rows.
-fn un_at(ws: &[u64], vs: &[u64], t: u64, i: usize) -> u64
-    requires i_in_bounds { (i < length ws.now) × (i < length vs.now) }
-    requires t_value { (is_un t ≡ true) × (0 < get_or ws.now i 0) × (get_or ws.now i 0 ≤ 64) × (get_or vs.now i 0 < 2 ^ get_or ws.now i 0) }
-    ensures value { result ≡ op_number t [] (lookup ws.now vs.now i ∷ []) }
+// The value of row i.
+fn value_at(ws: &[u64], vs: &[u64], i: u64) -> BitVec
+    requires bounds { (i < length ws.now) × (i < length vs.now) }
+    requires fits { (0 < get_or ws.now i 0) × (get_or ws.now i 0 ≤ 64) × (get_or vs.now i 0 < 2 ^ get_or ws.now i 0) }
+    ensures value { val result.width result.number ≡ lookup ws.now vs.now i }
 {
-    operate::un_value(t, ws[i], vs[i])
-}
-
-fn bin_at(ws: &[u64], vs: &[u64], t: u64, i: usize, j: usize) -> u64
-    requires i_in_bounds { (i < length ws.now) × (i < length vs.now) × (j < length ws.now) × (j < length vs.now) }
-    requires bin_ready { BinReady t (get_or ws.now i 0) (get_or vs.now i 0) (get_or ws.now j 0) (get_or vs.now j 0) }
-    ensures value { result ≡ op_number t [] (lookup ws.now vs.now i
-        ∷ lookup ws.now vs.now j ∷ []) }
-{
-    operate::bin_value(t, ws[i], vs[i], ws[j], vs[j])
-}
-
-fn extend_at(ws: &[u64], vs: &[u64], t: u64, i: usize, n: u64) -> u64
-    requires i_in_bounds { (i < length ws.now) × (i < length vs.now) }
-    requires t_value { (is_extend t ≡ true) × (0 < get_or ws.now i 0) × (get_or ws.now i 0 + n ≤ 64)
-        × (get_or vs.now i 0 < 2 ^ get_or ws.now i 0) }
-    ensures value { result ≡ op_number t (n ∷ []) (lookup ws.now vs.now i ∷ []) }
-{
-    operate::extend_value(t, ws[i], n, vs[i])
-}
-
-fn extract_at(vs: &[u64], high: u64, low: u64, i: usize) -> u64
-    requires { (i < length vs.now) × (low ≤ high) × (high < 64) }
-    ensures value { result ≡ extract high low (get_or vs.now i 0) }
-{
-    arith::bv_extract(high, low, vs[i])
-}
-
-fn ite_at(vs: &[u64], c: usize, t: usize, e: usize) -> u64
-    requires { (c < length vs.now) × (t < length vs.now) × (e < length vs.now) }
-    ensures value { result ≡ ite (get_or vs.now c 0) (get_or vs.now t 0) (get_or vs.now e 0) }
-{
-    comparisons::bv_ite(vs[c], vs[t], vs[e])
+    BitVec {
+        width: ws[i as usize],
+        number: vs[i as usize],
+    }
 }
 
 // The number of a node after rows of widths ws and numbers vs; x is the word given for its row.
@@ -64,11 +36,11 @@ fn node_value(bits: &[u8], ws: &[u64], vs: &[u64], x: u64, node: Node) -> u64
     match node {
         Node::Var(_) => x,
         Node::Const(s, w) => operate::const_value(bits, s as usize, w as usize),
-        Node::Un(t, a) => un_at(ws, vs, t, a as usize),
-        Node::Bin(t, a, b) => bin_at(ws, vs, t, a as usize, b as usize),
-        Node::Extract(high, low, a) => extract_at(vs, high, low, a as usize),
-        Node::Extend(t, a, n) => extend_at(ws, vs, t, a as usize, n),
-        Node::Ite(c, t, e) => ite_at(vs, c as usize, t as usize, e as usize),
+        Node::Un(t, a) => operate::un_value(t, value_at(ws, vs, a)),
+        Node::Bin(t, a, b) => operate::bin_value(t, value_at(ws, vs, a), value_at(ws, vs, b)),
+        Node::Extract(high, low, a) => arith::bv_extract(high, low, vs[a as usize]),
+        Node::Extend(t, a, n) => operate::extend_value(t, n, value_at(ws, vs, a)),
+        Node::Ite(c, t, e) => comparisons::bv_ite(vs[c as usize], vs[t as usize], vs[e as usize]),
         Node::Select(_, _, _, _) => 0,
         Node::Call(_, _, _, _) => 0,
         Node::Unknown => 0,
@@ -92,11 +64,7 @@ pub fn evaluate(g: &[u64], bits: &[u8], given: &[u64], ws: &[u64], vs: &mut [u64
     ensures list { vs.new ≡ numbers_to g.now bits.now given.now (length ws.now) ++ drop
         (length ws.now) vs.old }
 {
-    let n = ws.len();
-    let mut i = 0;
-    while i < n {
-        let v = row_value(g, bits, ws, &vs[..i], given[i], i);
-        vs[i] = v;
-        i += 1;
+    for i in 0..ws.len() {
+        vs[i] = row_value(g, bits, ws, &vs[..i], given[i], i);
     }
 }

@@ -13,24 +13,19 @@ use rows::{Graph, tag};
 fn too_wide(ws: &[u64]) -> usize
     ensures row { result ≡ wide_row ws.now (length ws.now) }
 {
-    let mut i = 0;
-    while i < ws.len() {
-        if 64 < ws[i] {
+    for (i, &w) in ws.iter().enumerate() {
+        if 64 < w {
             return i;
         }
-        i += 1;
     }
-    i
+    ws.len()
 }
 
 // The word given for a row is a variable's and does not fit.
 fn word_bad(r: [u64; 5], x: u64) -> bool
     ensures test { result ≡ cond (eqb (get_or r 0 0) 0) (not (ltb x (2 ^ get_or r 1 0))) false }
 {
-    if r[0] != tag::VAR {
-        return false;
-    }
-    !arith::value_fits(r[1], x)
+    r[0] == tag::VAR && !arith::value_fits(r[1], x)
 }
 
 // The first variable whose word does not fit, or the number of rows.
@@ -38,14 +33,12 @@ fn bad_word(g: &[u64], given: &[u64]) -> usize
     requires { length given.now ≡ row_count Graph.Target g.now }
     ensures row { result ≡ bad_word g.now given.now }
 {
-    let mut i = 0;
-    while i < given.len() {
-        if word_bad(rows::row(Graph::Target, g, i), given[i]) {
+    for (i, &x) in given.iter().enumerate() {
+        if word_bad(rows::row(Graph::Target, g, i), x) {
             return i;
         }
-        i += 1;
     }
-    i
+    given.len()
 }
 
 // 21, 22 and 23 of a target with its widths.

@@ -1,3 +1,2 @@
--- The laws of tags, widths and constants that the dispatch rests on. Assumes nothing.
-pub mod Tag
+-- The laws of constants that the dispatch rests on. Assumes nothing.
 pub mod Constant

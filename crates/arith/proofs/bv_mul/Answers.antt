@@ -1,7 +1,7 @@
--- The low word of a product, kept to width w, is the product at width w. Assumes nothing.
+-- A wrapped product of words, kept to the width, is the product at that width. Assumes nothing.
 use Rattle.std.proofs.Common.{◌∙◌}
 use Rattle.bv.proofs.Word.{mod-under}
 use Rattle.arith.proofs.bv_mul.Goals as goal
 
-pub returns : goal.returns
-returns c = record { value = c.low.ensures.low ∙ rw c.product.ensures.low (mod-under _ _ c.requires) }
+pub returns-clause-value : goal.returns-clause-value
+returns-clause-value c = c.nat2bv.ensures.value ∙ mod-under _ _ c.args.a.narrow

@@ -1,7 +1,7 @@
 -- The word's `&` has the bits that `and-law` asks for. Assumes nothing.
-use mathlib.Core.Path.{sym}
+use Rattle.std.proofs.Common.{sym}
 use Rattle.bitwise.proofs.Logic.{and-law}
 use Rattle.bitwise.proofs.bv_and.Goals as goal
 
-pub returns : goal.returns
-returns c = record { value = sym (and-law c.args.w c.args.a c.args.b c.requires.2 c.requires.3) }
+pub returns-clause-value : goal.returns-clause-value
+returns-clause-value c = sym (and-law _ _ _ c.args.a.fits (rw c.requires c.args.b.fits))

@@ -1,7 +1,7 @@
 -- The complement is the difference from all ones (`not-law`). Assumes nothing.
-use native.Mathlib.Omega.{arith}
+use Rattle.std.proofs.Common.{arith}
 use Rattle.bitwise.proofs.Logic.{not-law}
 use Rattle.bitwise.proofs.bv_not.Goals as goal
 
-pub returns : goal.returns
-returns c = record { value = omega (arith, not-law c.args.w c.args.a c.requires.2) }
+pub returns-clause-value : goal.returns-clause-value
+returns-clause-value c = omega (arith, not-law c.args.a.width c.args.a.number c.args.a.fits)

@@ -1,32 +1,21 @@
 -- The two parts change places (`rotl-word`); an amount of 0 is apart, so no shift is by 64. Assumes nothing.
-use Prim.Native.Nat.{◌≤◌, ◌%◌}
-use native.Mathlib.Nat.{mod-lt}
-use native.Mathlib.Omega.{arith}
+use Rattle.std.proofs.Common.{◌≤◌, ◌%◌, mod-lt, arith}
 use Rattle.bv.specs.Bv.{rotate_left}
+use Rattle.bitwise.proofs.Fits.{rotl-fits}
 use Rattle.bitwise.proofs.Turn.{rotl-word}
 use Rattle.bitwise.proofs.bv_rotl.Goals as goal
 
-pub returns-then-k-eq0 : goal.returns-then-k-eq0
+pub returns-then-k-eq0-clause-value : goal.returns-then-k-eq0-clause-value
 unfolding rotate_left
-returns-then-k-eq0 c = record { value = rw c.if-k-eq0.true }
+returns-then-k-eq0-clause-value c = rw c.if-k-eq0.true
 
-pub overflow_sub-j : goal.overflow_sub-j
-overflow_sub-j c = omega (arith, mod-lt c.args.b c.requires.0)
+pub returns-clause-value : goal.returns-clause-value
+returns-clause-value c =
+    let h : c.args.b.number % c.args.a.width ≤ c.args.a.width = omega (arith, mod-lt c.args.b.number c.args.a.positive) in
+    rw c.low.ensures.low (rotl-word _ _ _ h c.args.a.narrow c.args.a.fits)
 
-pub low-requires : goal.low-requires
-low-requires c = omega (arith, mod-lt c.args.b c.requires.0)
-
-pub overflow_shl-result : goal.overflow_shl-result
-overflow_shl-result c = omega (arith, mod-lt c.args.b c.requires.0)
-
-pub overflow_shr-result : goal.overflow_shr-result
-overflow_shr-result c = omega (arith, mod-lt c.args.b c.requires.0)
-
-pub returns : goal.returns
-returns c = record {
-  value =
-      let h : c.args.b % c.args.w ≤ c.args.w =
-      omega (arith, mod-lt c.args.b c.requires.0) in
-      rw c.low.ensures.low (rotl-word c.args.w _ c.args.a h c.requires.1
-      c.requires.2);
-}
+pub invariant_of-result-clause-fits : goal.invariant_of-result-clause-fits
+invariant_of-result-clause-fits c =
+    let h : c.args.b.number % c.args.a.width ≤ c.args.a.width = omega (arith, mod-lt c.args.b.number c.args.a.positive) in
+    rw (c.low.ensures.low, rotl-word c.args.a.width _ c.args.a.number h c.args.a.narrow c.args.a.fits)
+    (rotl-fits c.args.a.width c.args.a.number c.args.b.number c.args.a.positive c.args.a.fits)

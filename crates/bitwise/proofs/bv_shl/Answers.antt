@@ -1,16 +1,9 @@
--- The shift in a word keeps the low w bits (`shl-law`). Assumes nothing.
-use mathlib.Core.Path.{◌∙◌, sym}
-use borrow.Author.Tests.{le-ltb}
+-- The shift in a word keeps the low bits of the width (`shl-law`). Assumes nothing.
+use Rattle.std.proofs.Common.{◌∙◌, sym}
 use Rattle.bv.proofs.Word.{mod-under}
 use Rattle.bitwise.proofs.Shift.{shl-law}
 use Rattle.bitwise.proofs.bv_shl.Goals as goal
 
-pub returns-then-b-w : goal.returns-then-b-w
-returns-then-b-w c = record {
-  value =
-      c.low.ensures.low ∙ mod-under _ _ c.requires.1
-      ∙ sym (shl-law c.args.w c.args.a c.args.b);
-}
-
-pub returns-else-b-w : goal.returns-else-b-w
-returns-else-b-w c = record { value = simp (le-ltb, c.if-b-w.false) }
+pub returns-then-b-a-clause-value : goal.returns-then-b-a-clause-value
+returns-then-b-a-clause-value c =
+    c.nat2bv.ensures.value ∙ mod-under _ _ c.args.a.narrow ∙ sym (shl-law c.args.a.width c.args.a.number c.args.b.number)

@@ -1,11 +1,7 @@
 -- Invariant: v is the number of the bits from k up to w; one more bit below doubles it. Assumes nothing.
-use mathlib.Core.Path.{◌≡◌}
-use Prim.Native.Nat.{◌≤◌, ◌-◌, ◌+◌}
+use Rattle.std.proofs.Common.{◌≡◌, ◌-◌, ◌+◌}
 use Rattle.value.specs.Operate.{const_number}
 use Rattle.operate.proofs.const_value.Given as goal
 
 abbrev pub invariant-loop-k : goal.invariant-loop-k
-invariant-loop-k l = (l.k ≤ l.w) × (l.v ≡ const_number l.bits (l.s + l.k) (l.w - l.k))
-
-abbrev pub decreases-loop-k : goal.decreases-loop-k
-decreases-loop-k l = l.k
+invariant-loop-k l = l.v ≡ const_number l.bits (l.s + l.k) (l.w - l.k)
