@@ -1,12 +1,19 @@
 -- What a loop keeps that compares two sequences place by place: those before j agree. Assumes nothing.
-use Prim.Native.Nat.{ℕ, ◌+◌, ◌<◌, ◌≤◌, zero-le}
-use mathlib.Core.Path.{◌≡◌, sym}
-use mathlib.Core.Bool.{true, false}
+use Prim.Native.Nat.{ℕ, ◌+◌, ◌-◌, ◌<◌, ◌≤◌, zero-le}
+use mathlib.Core.Path.{◌≡◌, sym, ap, ◌∙◌}
+use mathlib.Core.Bool.{Bool, true, false}
+use mathlib.Core.List.{List}
 use native.Mathlib.Nat.{not-suc-le-zero}
 use native.Mathlib.Omega.{arith}
 use borrow.Author.Count.{below_more}
+use lib.Dec.{eqb}
+use lib.ListN.{length, get_or, take, drop}
+use lib.Pointwise.{pointwise}
+use Rattle.std.proofs.lemmas.Bool.Decides.{Decides-eqb, same_from_decides}
+use Rattle.std.proofs.lemmas.List.{ext_get_or, get_or-take, get_or-drop, length-take, length-drop}
+use Rattle.std.proofs.lemmas.Slice.Eq.{slice_eq-Decides}
 use Rattle.lists.specs.Tests.{agree}
-use Rattle.lists.proofs.Tests.{agree-yes, agree-no}
+use Rattle.lists.proofs.Tests.{agree_at, agree-yes, agree-no}
 
 module _ (f g : ℕ → ℕ) (n : ℕ) where
   abbrev pub Agreed : ℕ → Type 0
@@ -24,3 +31,29 @@ module _ (f g : ℕ → ℕ) (n : ℕ) where
 
     pub agreed-all : n ≤ j → true ≡ agree f g n
     agreed-all h = sym (agree-yes f g n (λ k l. a.1 k (omega arith)))
+
+-- two stretches of w numbers are one list where they agree place by place
+module _ (xs ys : List ℕ) (s t w : ℕ) (h : s + w ≤ length xs) (k : t + w ≤ length ys) where
+  cut : List ℕ → ℕ → List ℕ
+  cut zs o = take (o + w - o) (drop o zs)
+
+  cut-at : (zs : List ℕ) (o i : ℕ) → i < w → get_or (cut zs o) i 0 ≡ get_or zs (o + i) 0
+  unfolding cut
+  cut-at zs o i l = let b : i < o + w - o = omega arith in rw (get_or-take, get_or-drop)
+
+  cut-length : (zs : List ℕ) (o : ℕ) → o + w ≤ length zs → length (cut zs o) ≡ w
+  unfolding cut
+  cut-length zs o b = simp (length-take, length-drop) (omega arith)
+
+  agreed-cuts : agree (λ i. get_or xs (s + i) 0) (λ i. get_or ys (t + i) 0) w ≡ true → cut xs s ≡ cut ys t
+  agreed-cuts e =
+      ext_get_or 0 _ _ (cut-length xs s h ∙ sym (cut-length ys t k))
+      (λ i l. let b : i < w = omega (arith, cut-length xs s h) in cut-at xs s i b ∙ agree_at _ _ _ e i b ∙ sym (cut-at ys t i b))
+
+  cuts-agree : cut xs s ≡ cut ys t → agree (λ i. get_or xs (s + i) 0) (λ i. get_or ys (t + i) 0) w ≡ true
+  cuts-agree e = agree-yes _ _ _ (λ i b. sym (cut-at xs s i b) ∙ ap (λ (zs : List ℕ). get_or zs i 0) e ∙ cut-at ys t i b)
+
+  pub stretches-agree : (r : Bool) → r ≡ pointwise eqb (take (s + w - s) (drop s xs)) (take (t + w - t) (drop t ys))
+      → r ≡ agree (λ i. get_or xs (s + i) 0) (λ i. get_or ys (t + i) 0) w
+  unfolding cut
+  stretches-agree r e = same_from_decides _ _ (slice_eq-Decides Decides-eqb _ _ r e) (agreed-cuts, cuts-agree)
