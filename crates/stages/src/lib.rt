@@ -75,15 +75,15 @@ pub fn roots(
     if lead < eroots.len() {
         return Answer::RootMismatch(lead as u64);
     }
-    let a = pairs::array_cong(reads, target, tbits, troots, eroots.len());
-    if !a.ok {
-        return Answer::CongruenceMismatch(a.next as u64);
-    }
-    let u = congruence::uf_cong(calls, cargs, target, ws, troots, a.next);
-    if !u.ok {
-        return Answer::CongruenceMismatch(u.next as u64);
-    }
-    if u.next != troots.len() {
+    let a = match pairs::array_cong(reads, target, tbits, troots, eroots.len()) {
+        Ok(next) => next,
+        Err(read_at) => return Answer::CongruenceMismatch(read_at as u64),
+    };
+    let u = match congruence::uf_cong(calls, cargs, target, ws, troots, a) {
+        Ok(next) => next,
+        Err(call_at) => return Answer::CongruenceMismatch(call_at as u64),
+    };
+    if u != troots.len() {
         return Answer::RootMismatch(0);
     }
     Answer::Accepted
