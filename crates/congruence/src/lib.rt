@@ -8,7 +8,6 @@ ghost use Rattle.lowering.specs.Roots.{pairs_with, call_pairs, all_equal, congru
 ghost use Rattle.pairs.specs.Walk.{walked};
 ghost use Rattle.congruence.specs.Calls.{CallsIn, EqsEven};
 
-use pairs::Cong;
 use rows::{Graph, tag};
 
 // Row a says that k arguments from sp on and from sq on are equal: BoolAnd nested to the left, the last equality outermost.
@@ -54,18 +53,21 @@ fn call_stands(
         ∷ congruent target.now (λ i. get_or cargs.now (sp + i) 0) (λ i. get_or cargs.now (sq + i) 0) k vp vq
         (get_or troots.now idx 0) ∷ []) }
 {
-    if troots.len() <= idx {
+    let Some(root) = troots.get(idx) else {
         return false;
-    }
+    };
     if k == 0 {
         return false;
     }
-    let a = leads::implication_shape(target, troots[idx], vp, vq);
+    let Some(a) = leads::implication_shape(target, *root, vp, vq) else {
+        return false;
+    };
     ante_ok(target, cargs, sp as usize, sq as usize, k as usize, a)
 }
 
 // The pairs of entry k with later ones; their roots stand from idx0 on. A root that stands says that the arguments have the same widths, since Eq
-// takes operands of one width; so these are compared only where none stands.
+// takes operands of one width; so these are compared only where none stands. Ok is the position after those that stand, Err that of the first that
+// does not.
 fn uf_cong_for(
     calls: &[u64],
     cargs: &[u64],
@@ -74,7 +76,7 @@ fn uf_cong_for(
     troots: &[u64],
     k: usize,
     idx0: usize,
-) -> Cong
+) -> Result<usize, usize>
     requires calls_in { CallsIn calls.now cargs.now }
     requires eqs_even { EqsEven target.now ws.now }
     requires k_bound { k < call_count calls.now }
@@ -90,26 +92,18 @@ fn uf_cong_for(
     let count = calls[at + 3];
     let width = keys::width_at(ws, vp);
     let mut idx = idx0;
-    let mut l = k + 1;
-    while l < n {
+    for l in k + 1..n {
         let o = l * 4;
         if keys::function_is(calls, ws, o, fid, count, width) {
             let sq = calls[o + 2];
             if call_stands(cargs, target, troots, idx, sp, sq, count, vp, calls[o]) {
                 idx += 1;
             } else if keys::same_function(calls, cargs, ws, at, o) {
-                return Cong {
-                    ok: false,
-                    next: idx,
-                };
+                return Err(idx);
             }
         }
-        l += 1;
     }
-    Cong {
-        ok: true,
-        next: idx,
-    }
+    Ok(idx)
 }
 
 // All pairs of calls of one function.
@@ -120,25 +114,13 @@ pub fn uf_cong(
     ws: &[u64],
     troots: &[u64],
     idx0: usize,
-) -> Cong
+) -> Result<usize, usize>
     requires calls_in { CallsIn calls.now cargs.now }
     requires eqs_even { EqsEven target.now ws.now }
     ensures walk { result ≡ walked troots.now (call_root calls.now cargs.now target.now) idx0
         (call_pairs calls.now cargs.now ws.now) }
 {
-    let n = tables::call_count(calls);
-    let mut idx = idx0;
-    let mut k = 0;
-    while k < n {
-        let c = uf_cong_for(calls, cargs, target, ws, troots, k, idx);
-        if !c.ok {
-            return c;
-        }
-        idx = c.next;
-        k += 1;
-    }
-    Cong {
-        ok: true,
-        next: idx,
-    }
+    pairs::table_cong(tables::call_count(calls), idx0, |k, idx| {
+        uf_cong_for(calls, cargs, target, ws, troots, k, idx)
+    })
 }

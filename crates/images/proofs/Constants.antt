@@ -1,11 +1,13 @@
 -- Laws of tests on two constants, and where their bits lie. Assumes nothing.
 use Prim.Native.Nat.{ℕ, ◌<◌, ◌+◌, ◌≤◌}
-use mathlib.Core.Path.{◌≡◌, refl, sym, ap, ◌∙◌}
+use mathlib.Core.Path.{◌≡◌, refl, sym, ◌∙◌}
 use mathlib.Core.Bool.{Bool, true, false, not, cond}
 use mathlib.Core.List.{List}
 use borrow.Author.Tests.{eq-eqb, ne_eqb}
 use lib.Dec.{eqb}
 use lib.ListN.{length, get_or}
+use Rattle.std.specs.Option.{is_some}
+use Rattle.std.specs.declared.option.Option.TheVariants.{Some, None}
 use Rattle.sorts.specs.Sorts.{Sorts}
 use Rattle.lists.specs.Tests.{all, agree}
 use Rattle.rows.specs.declared.Graph.{Graph}
@@ -24,30 +26,31 @@ pub bits-within : {σ : Sorts} (graph : Graph) (bits side g ws : List ℕ) → W
     → (i : ℕ) → i < row_count graph g → BitsWithin bits (row_at graph g i)
 bits-within graph bits side g ws formed i h e = (rw (const-row (row_at graph g i) e) at (formed i h).follows).1
 
--- a row as a constant
-is-of : (r : List ℕ) → (constant_of r).is ≡ eqb (get_or r 0 0) t_const
+-- a row as a constant: a test of it, and its fields
+is-of : (r : List ℕ) → is_some (constant_of r) ≡ eqb (get_or r 0 0) t_const
 is-of r = go (eqb (get_or r 0 0) t_const)
   where
-    go : (b : Bool) → (cond b (constant true (get_or r 1 0) (get_or r 2 0)) (constant false 0 0)).is ≡ b
+    go : (b : Bool) → is_some (cond b (Some (constant (get_or r 1 0) (get_or r 2 0))) None) ≡ b
     go true = refl
     go false = refl
 
-module _ (r q : List ℕ) (c : Constant) (e : c ≡ constant_of r) where
-  tag_is : eqb (get_or r 0 0) t_const ≡ c.is
-  tag_is = sym (is-of r) ∙ sym (ap (λ (k : Constant). k.is) e)
-
-  pub both-no : c.is ≡ false → false ≡ both_const r q
+module _ (r q : List ℕ) where
+  pub both-some : is_some (constant_of r) ≡ true → is_some (constant_of q) ≡ both_const r q
   unfolding both_const all
-  both-no n = rw (tag_is, n)
+  both-some e = rw (sym (is-of r) ∙ e, is-of q) (last-test _)
 
-  module _ (d : Constant) (f : d ≡ constant_of q) where
-    pub both_rest : c.is ≡ true → d.is ≡ both_const r q
-    unfolding both_const all
-    both_rest n = rw (tag_is, n, sym (is-of q), sym f) (last-test _)
+  pub both-none : is_some (constant_of r) ≡ false → false ≡ both_const r q
+  unfolding both_const all
+  both-none e = rw (sym (is-of r) ∙ e)
 
-    -- two constants' starts and widths
-    pub fields : both_const r q ≡ true → (c ≡ constant true (get_or r 1 0) (get_or r 2 0)) × (d ≡ constant true (get_or q 1 0) (get_or q 2 0))
-    fields b = let (x, y) = both-const r q b in (e ∙ rw (eq-eqb _ _ x), f ∙ rw (eq-eqb _ _ y))
+  pub constants : both_const r q ≡ true
+      → (constant_of r ≡ Some (constant (get_or r 1 0) (get_or r 2 0))) × (constant_of q ≡ Some (constant (get_or q 1 0) (get_or q 2 0)))
+  constants b = let (x, y) = both-const r q b in (rw (eq-eqb _ _ x), rw (eq-eqb _ _ y))
+
+  -- the fields of two constants
+  pub fields : (c d : Constant) → Some c ≡ constant_of r → Some d ≡ constant_of q → both_const r q ≡ true
+      → (c ≡ constant (get_or r 1 0) (get_or r 2 0)) × (d ≡ constant (get_or q 1 0) (get_or q 2 0))
+  fields c d e f b = let p = constants b in (cc p.0, cc p.1)
 
 module _ (rbits r qbits q : List ℕ) where
   pub same-no : both_const r q ≡ false → false ≡ same_const rbits r qbits q

@@ -17,11 +17,7 @@ use rows::{Graph, MAX, tag};
 pub fn map_at(map: &[u64], a: u64) -> u64
     ensures row { result ≡ map_at map.now a }
 {
-    if map.len() as u64 <= a {
-        return MAX;
-    }
-    let i = a as usize;
-    map[i]
+    map.get(a as usize).copied().unwrap_or(MAX)
 }
 
 fn map_from(map: &[u64], t: u64, a: u64, b: u64, c: u64, d: u64) -> [u64; 5]
@@ -31,21 +27,12 @@ fn map_from(map: &[u64], t: u64, a: u64, b: u64, c: u64, d: u64) -> [u64; 5]
         tag::VAR => [tag::VAR, a, 0, 0, 0],
         tag::CONST => [tag::CONST, a, b, 0, 0],
         tag::EXTRACT => [tag::EXTRACT, a, b, map_at(map, c), 0],
-        tag::ZERO_EXT => [tag::ZERO_EXT, map_at(map, a), b, 0, 0],
-        tag::SIGN_EXT => [tag::SIGN_EXT, map_at(map, a), b, 0, 0],
+        tag::ZERO_EXT | tag::SIGN_EXT => [t, map_at(map, a), b, 0, 0],
         tag::ITE => [tag::ITE, map_at(map, a), map_at(map, b), map_at(map, c), 0],
-        tag::NOT => [tag::NOT, map_at(map, a), 0, 0, 0],
-        tag::BV_NOT => [tag::BV_NOT, map_at(map, a), 0, 0, 0],
-        tag::NEG => [tag::NEG, map_at(map, a), 0, 0, 0],
-        tag::SELECT => [tag::SELECT, a, b, c, d],
-        tag::CALL => [tag::CALL, a, b, c, d],
-        _ => {
-            if t < tag::SELECT {
-                [t, map_at(map, a), map_at(map, b), 0, 0]
-            } else {
-                [39, 0, 0, 0, 0]
-            }
-        }
+        tag::NOT | tag::BV_NOT | tag::NEG => [t, map_at(map, a), 0, 0, 0],
+        tag::SELECT | tag::CALL => [t, a, b, c, d],
+        _ if t < tag::SELECT => [t, map_at(map, a), map_at(map, b), 0, 0],
+        _ => [39, 0, 0, 0, 0],
     }
 }
 
@@ -68,29 +55,24 @@ pub fn row_is_eq(r: [u64; 5], a: u64, b: u64) -> bool
     rows::node_eq(r, [tag::EQ, a, b, 0, 0])
 }
 
-// What a row says as a constant: whether it is one, and if so where its bits start and how many there are.
+// Where a constant's bits start and how many there are.
 #[derive(Clone, Copy)]
 pub struct Constant {
-    pub is: bool,
     pub start: u64,
     pub width: u64,
 }
 
-fn ext_const(r: [u64; 5]) -> Constant
+// A row as a constant.
+fn ext_const(r: [u64; 5]) -> Option<Constant>
     ensures constant { result ≡ constant_of r }
 {
     if r[0] != tag::CONST {
-        return Constant {
-            is: false,
-            start: 0,
-            width: 0,
-        };
+        return None;
     }
-    Constant {
-        is: true,
+    Some(Constant {
         start: r[1],
         width: r[2],
-    }
+    })
 }
 
 // The w bits of rbits from s on are those of qbits from t on.
@@ -98,25 +80,13 @@ pub fn bits_eq(rbits: &[u8], s: usize, qbits: &[u8], t: usize, w: usize) -> bool
     requires { (s + w ≤ length rbits.now) × (t + w ≤ length qbits.now) }
     ensures test { result ≡ agree (λ k. get_or rbits.now (s + k) 0) (λ k. get_or qbits.now (t + k) 0) w }
 {
-    let mut j = 0;
-    while j < w {
-        if rbits[s + j] != qbits[t + j] {
-            return false;
-        }
-        j += 1;
-    }
-    true
+    rbits[s..s + w] == qbits[t..t + w]
 }
 
 pub fn both_const(r: [u64; 5], q: [u64; 5]) -> bool
     ensures test { result ≡ both_const r q }
 {
-    let c = ext_const(r);
-    if !c.is {
-        return false;
-    }
-    let d = ext_const(q);
-    d.is
+    ext_const(r).is_some() && ext_const(q).is_some()
 }
 
 // Two constants are of one width and bits.
@@ -124,46 +94,37 @@ pub fn same_bits(rbits: &[u8], r: [u64; 5], qbits: &[u8], q: [u64; 5]) -> bool
     requires { BitsWithin rbits.now r × BitsWithin qbits.now q × (both_const r q ≡ true) }
     ensures test { result ≡ same_const rbits.now r qbits.now q }
 {
-    let c = ext_const(r);
-    let d = ext_const(q);
-    if c.width != d.width {
+    let (Some(c), Some(d)) = (ext_const(r), ext_const(q)) else {
         return false;
-    }
-    bits_eq(
-        rbits,
-        c.start as usize,
-        qbits,
-        d.start as usize,
-        c.width as usize,
-    )
+    };
+    c.width == d.width
+        && bits_eq(
+            rbits,
+            c.start as usize,
+            qbits,
+            d.start as usize,
+            c.width as usize,
+        )
 }
 
 pub fn same_const(rbits: &[u8], r: [u64; 5], qbits: &[u8], q: [u64; 5]) -> bool
     requires { BitsWithin rbits.now r × BitsWithin qbits.now q }
     ensures test { result ≡ same_const rbits.now r qbits.now q }
 {
-    if !both_const(r, q) {
-        return false;
-    }
-    same_bits(rbits, r, qbits, q)
+    both_const(r, q) && same_bits(rbits, r, qbits, q)
 }
 
 pub fn unequal_const(bits: &[u8], r: [u64; 5], q: [u64; 5]) -> bool
     requires { BitsWithin bits.now r × BitsWithin bits.now q }
     ensures test { result ≡ unequal_const bits.now r q }
 {
-    if !both_const(r, q) {
-        return false;
-    }
-    !same_bits(bits, r, bits, q)
+    both_const(r, q) && !same_bits(bits, r, bits, q)
 }
 
 // Target row r is Eq(a, b).
 pub fn is_eq(target: &[u64], a: u64, b: u64, r: u64) -> bool
     ensures test { result ≡ is_eq target.now a b r }
 {
-    if rows::row_count(Graph::Target, target) as u64 <= r {
-        return false;
-    }
-    row_is_eq(rows::row(Graph::Target, target, r as usize), a, b)
+    r < rows::row_count(Graph::Target, target) as u64
+        && row_is_eq(rows::row(Graph::Target, target, r as usize), a, b)
 }

@@ -1,7 +1,7 @@
 // Keys of table entries: what tells two functions apart, and whether an entry before has the same key.
-#![tactic(auto)]
+#![tactic(auto, unfolding(lists::specs::Tests::all))]
 
-ghost use Rattle.std.specs.Prelude.{◌≡◌, not, [], ◌∷◌, ◌≤◌, ◌+◌, ◌*◌, length, get_or};
+ghost use Rattle.std.specs.Prelude.{◌≡◌, ℕ, Bool, false, not, [], ◌∷◌, ◌<◌, ◌≤◌, ◌+◌, ◌*◌, ◌^◌, length, get_or};
 ghost use Rattle.lists.specs.First.{none};
 ghost use Rattle.lists.specs.Tests.{all};
 ghost use Rattle.lowering.specs.Tables.{same_read, same_call};
@@ -12,13 +12,25 @@ fn read_is(reads: &[u64], off: usize, array: u64, index: u64) -> bool
     requires { off + 3 ≤ length reads.now }
     ensures test { result ≡ read_is reads.now off array index }
 {
-    if reads[off + 1] != array {
-        return false;
-    }
-    reads[off + 2] == index
+    reads[off + 1] == array && reads[off + 2] == index
 }
 
-// A read entry before k has its key. The search needs no bound: entry k ends it.
+// In a table of SIZE words an entry: one before k has the key that `is` asks for at an offset. Entry k has it, so the search needs no bound.
+fn found_before<const SIZE: usize, F: Fn(usize) -> bool>(k: usize, is: F) -> bool
+    requires size { (0 < SIZE) × (k * SIZE + SIZE < 2 ^ 64) }
+    requires callable { (l : ℕ) → l ≤ k → F.pre is (l * SIZE) }
+    requires own { F.post is (k * SIZE) false → ⊥ }
+    ensures test { (p : ℕ → Bool) → ((l : ℕ) (b : Bool) → l ≤ k → F.post is (l * SIZE) b → b ≡ p l) → result ≡ not (none p k) }
+{
+    let upto = k * SIZE;
+    let mut off = 0;
+    while !is(off) {
+        off += SIZE;
+    }
+    off < upto
+}
+
+// A read entry before k has its key.
 pub fn read_dup(reads: &[u64], k: usize) -> bool
     requires { k * 3 + 3 ≤ length reads.now }
     ensures test { result ≡ not (none (λ l. same_read reads.now l k) k) }
@@ -26,21 +38,14 @@ pub fn read_dup(reads: &[u64], k: usize) -> bool
     let upto = k * 3;
     let array = reads[upto + 1];
     let index = reads[upto + 2];
-    let mut off = 0;
-    while !read_is(reads, off, array, index) {
-        off += 3;
-    }
-    off < upto
+    found_before::<3, _>(k, |off| read_is(reads, off, array, index))
 }
 
 // The width of a row; 0 past the rows.
 pub fn width_at(ws: &[u64], r: u64) -> u64
     ensures width { result ≡ get_or ws.now r 0 }
 {
-    if ws.len() as u64 <= r {
-        return 0;
-    }
-    ws[r as usize]
+    ws.get(r as usize).copied().unwrap_or(0)
 }
 
 // The call entry at off has function number f, n arguments and a result of w bits.
@@ -48,13 +53,7 @@ pub fn function_is(calls: &[u64], ws: &[u64], off: usize, f: u64, n: u64, w: u64
     requires { off + 4 ≤ length calls.now }
     ensures test { result ≡ function_is calls.now ws.now off f n w }
 {
-    if calls[off + 1] != f {
-        return false;
-    }
-    if calls[off + 3] != n {
-        return false;
-    }
-    width_at(ws, calls[off]) == w
+    calls[off + 1] == f && calls[off + 3] == n && width_at(ws, calls[off]) == w
 }
 
 // The n arguments from s on are those from t on.
@@ -62,14 +61,7 @@ fn args_eq(cargs: &[u64], s: usize, t: usize, n: usize) -> bool
     requires { (s + n ≤ length cargs.now) × (t + n ≤ length cargs.now) }
     ensures test { result ≡ args_eq cargs.now s t n }
 {
-    let mut l = 0;
-    while l < n {
-        if cargs[s + l] != cargs[t + l] {
-            return false;
-        }
-        l += 1;
-    }
-    true
+    cargs[s..s + n] == cargs[t..t + n]
 }
 
 // The call entry at off has these and the n arguments from s on.
@@ -86,10 +78,8 @@ fn call_is(
     requires { (off + 4 ≤ length calls.now) × ArgsAt calls.now cargs.now off × (s + n ≤ length cargs.now) }
     ensures test { result ≡ call_is calls.now cargs.now ws.now off f s n w }
 {
-    if !function_is(calls, ws, off, f, n, w) {
-        return false;
-    }
-    args_eq(cargs, calls[off + 2] as usize, s as usize, n as usize)
+    function_is(calls, ws, off, f, n, w)
+        && args_eq(cargs, calls[off + 2] as usize, s as usize, n as usize)
 }
 
 // The n arguments from s on have the widths of those from t on.
@@ -97,15 +87,10 @@ fn arg_widths_eq(cargs: &[u64], ws: &[u64], s: usize, t: usize, n: usize) -> boo
     requires { (s + n ≤ length cargs.now) × (t + n ≤ length cargs.now) }
     ensures test { result ≡ arg_widths_eq cargs.now ws.now s t n }
 {
-    let mut i = 0;
-    while i < n {
-        let w = width_at(ws, cargs[s + i]);
-        if w != width_at(ws, cargs[t + i]) {
-            return false;
-        }
-        i += 1;
-    }
-    true
+    cargs[s..s + n]
+        .iter()
+        .zip(&cargs[t..t + n])
+        .all(|(a, b)| width_at(ws, *a) == width_at(ws, *b))
 }
 
 // The call entries at p and q are of one function: number, count, the widths of results and arguments. It tells functions apart for keys and for
@@ -117,16 +102,14 @@ pub fn same_function(calls: &[u64], cargs: &[u64], ws: &[u64], p: usize, q: usiz
 {
     let n = calls[q + 3];
     let w = width_at(ws, calls[q]);
-    if !function_is(calls, ws, p, calls[q + 1], n, w) {
-        return false;
-    }
-    arg_widths_eq(
-        cargs,
-        ws,
-        calls[p + 2] as usize,
-        calls[q + 2] as usize,
-        n as usize,
-    )
+    function_is(calls, ws, p, calls[q + 1], n, w)
+        && arg_widths_eq(
+            cargs,
+            ws,
+            calls[p + 2] as usize,
+            calls[q + 2] as usize,
+            n as usize,
+        )
 }
 
 // The call entry at off has the key of the one at q, which has number f, n arguments from s on and a result of w bits: it is that one, or of the
@@ -147,16 +130,11 @@ fn call_again(
     ensures test { result ≡ all (call_is calls.now cargs.now ws.now off f s n w
         ∷ functions_agree calls.now cargs.now ws.now off q ∷ []) }
 {
-    if !call_is(calls, cargs, ws, off, f, s, n, w) {
-        return false;
-    }
-    if off == q {
-        return true;
-    }
-    same_function(calls, cargs, ws, off, q)
+    call_is(calls, cargs, ws, off, f, s, n, w)
+        && (off == q || same_function(calls, cargs, ws, off, q))
 }
 
-// A call entry before k has its key. Entry k ends the search here too.
+// A call entry before k has its key.
 pub fn call_dup(calls: &[u64], cargs: &[u64], ws: &[u64], k: usize) -> bool
     requires k_in_bounds { k * 4 + 4 ≤ length calls.now }
     requires args_inside { ArgsInside calls.now cargs.now (k + 1) }
@@ -167,9 +145,5 @@ pub fn call_dup(calls: &[u64], cargs: &[u64], ws: &[u64], k: usize) -> bool
     let s = calls[upto + 2];
     let n = calls[upto + 3];
     let w = width_at(ws, calls[upto]);
-    let mut off = 0;
-    while !call_again(calls, cargs, ws, off, upto, f, s, n, w) {
-        off += 4;
-    }
-    off < upto
+    found_before::<4, _>(k, |off| call_again(calls, cargs, ws, off, upto, f, s, n, w))
 }

@@ -1,9 +1,9 @@
 -- The parts of a congruence root (01, 'How a row is matched': "BoolOr(Not(Eq(indices)), Eq(variables))").
 -- Inner: contracts within the code cite it; no answer's definition does. Assumes nothing.
-use Rattle.std.specs.Prelude.{ℕ, Bool, cond, List, [], ◌∷◌, eqb, ltb}
+use Rattle.std.specs.Prelude.{ℕ, Bool, cond, List, [], ◌∷◌, eqb, ltb, Option, Some, None}
 use Rattle.lists.specs.Tests.{all}
 use Rattle.rows.specs.declared.Graph.TheVariants.{Target}
-use Rattle.rows.specs.Row.{MAX, row_count}
+use Rattle.rows.specs.Row.{row_count}
 use Rattle.rows.specs.Tags.{t_not, t_bool_or}
 use Rattle.lowering.specs.Images.{tag_at, field_at}
 use Rattle.lowering.specs.Matching.{is_eq}
@@ -19,6 +19,6 @@ implies target u v r =
     ∷ eqb (tag_at target (field_at target r 1)) t_not
     ∷ [])
 
--- the row under its Not, MAX where it is no such row
-abbrev pub antecedent : List ℕ → ℕ → ℕ → ℕ → ℕ
-antecedent target u v r = cond (implies target u v r) (field_at target (field_at target r 1) 1) MAX
+-- the row under its Not, where it is such a row
+abbrev pub antecedent : List ℕ → ℕ → ℕ → ℕ → Option ℕ
+antecedent target u v r = cond (implies target u v r) (Some (field_at target (field_at target r 1) 1)) None

@@ -1,7 +1,7 @@
 -- Laws of the walk along the roots of some pairs. Assumes nothing.
 use Prim.Native.Nat.{ℕ, suc, ◌+◌, ◌-◌, ◌<◌, ◌≤◌}
 use mathlib.Core.Path.{◌≡◌, refl, sym, ◌∙◌}
-use mathlib.Core.Bool.{Bool, true, false, cond}
+use mathlib.Core.Bool.{Bool, true, false}
 use mathlib.Core.List.{List, [], ◌∷◌, ◌++◌}
 use native.Mathlib.Nat.{add-zero, add-suc, suc-add}
 use native.Mathlib.Numerals.{add-one}
@@ -9,20 +9,26 @@ use native.Mathlib.Omega.{arith}
 use borrow.Author.Tests.{ltb-true}
 use lib.Dec.{ltb, eqb-suc-suc, eqb-zero-suc}
 use lib.ListN.{length, get_or}
+use Rattle.std.specs.declared.result.Result.{Result}
+use Rattle.std.specs.declared.result.Result.TheVariants.{Ok, Err}
 use Rattle.lists.specs.First.{first}
 use Rattle.lists.proofs.Tests.{all_true}
 use Rattle.lowering.specs.Roots.{Pair, pair, pairs_with, pairs, root_at}
-use Rattle.pairs.specs.declared.Cong.{Cong}
-use Rattle.pairs.specs.Walk.{cong, walked}
+use Rattle.pairs.specs.Walk.{stood, walked}
+
+-- a walk behind a walk
+abbrev pub behind : (ℕ → Result ℕ ℕ) → Result ℕ ℕ → Result ℕ ℕ
+behind walk (Ok next) = walk next
+behind walk (Err at) = Err at
 
 module _ (troots : List ℕ) (test : ℕ → Pair → Bool) where
   -- no pair is left
-  pub walk_end : (from : ℕ) → walked troots test from [] ≡ cong true from
+  pub walk_end : (from : ℕ) → walked troots test from [] ≡ stood true from
   unfolding walked first
   walk_end from = rw (add-zero from)
 
   -- the first pair has its root, or not
-  pub walk-stop : (from : ℕ) (p : Pair) (ps : List Pair) → root_at troots test from p ≡ false → walked troots test from (p ∷ ps) ≡ cong false from
+  pub walk-stop : (from : ℕ) (p : Pair) (ps : List Pair) → root_at troots test from p ≡ false → walked troots test from (p ∷ ps) ≡ stood false from
   unfolding walked first
   walk-stop from p ps e = rw (add-zero from, e, eqb-zero-suc, add-zero from)
 
@@ -33,18 +39,13 @@ module _ (troots : List ℕ) (test : ℕ → Pair → Bool) where
 
   -- the pairs of two lists, one after the other
   pub walk-both : (ps qs : List Pair) (from : ℕ)
-      → walked troots test from (ps ++ qs)
-      ≡ cond (walked troots test from ps).ok (walked troots test (walked troots test from ps).next qs) (walked troots test from ps)
+      → walked troots test from (ps ++ qs) ≡ behind (λ next. walked troots test next qs) (walked troots test from ps)
   walk-both [] qs from = rw (walk_end from)
   walk-both (p ∷ ps) qs from = go (root_at troots test from p) refl (walk-both ps qs (from + 1))
     where
       go : (b : Bool) → root_at troots test from p ≡ b
-          → walked troots test (from + 1) (ps ++ qs)
-          ≡ cond (walked troots test (from + 1) ps).ok (walked troots test (walked troots test (from + 1) ps).next qs)
-          (walked troots test (from + 1) ps)
-          → walked troots test from (p ∷ (ps ++ qs))
-          ≡ cond (walked troots test from (p ∷ ps)).ok (walked troots test (walked troots test from (p ∷ ps)).next qs)
-          (walked troots test from (p ∷ ps))
+          → walked troots test (from + 1) (ps ++ qs) ≡ behind (λ next. walked troots test next qs) (walked troots test (from + 1) ps)
+          → walked troots test from (p ∷ (ps ++ qs)) ≡ behind (λ next. walked troots test next qs) (walked troots test from (p ∷ ps))
       go true e more = rw (walk-on from p (ps ++ qs) e, walk-on from p ps e) more
       go false e more = rw (walk-stop from p (ps ++ qs) e, walk-stop from p ps e)
 
@@ -58,7 +59,7 @@ pub record RowKept (troots : List ℕ) (test : ℕ → Pair → Bool) (needs : �
   pub kept : walked troots test from (pairs_with needs k (k + 1) (n - (k + 1))) ≡ walked troots test idx (pairs_with needs k l (n - l))
 
 module _ {troots : List ℕ} {test : ℕ → Pair → Bool} {needs : ℕ → ℕ → Bool} {n k from idx l : ℕ} (a : RowKept troots test needs n k from idx l) where
-  pub row-end : n ≤ l → cong true idx ≡ walked troots test from (pairs_with needs k (k + 1) (n - (k + 1)))
+  pub row-end : n ≤ l → stood true idx ≡ walked troots test from (pairs_with needs k (k + 1) (n - (k + 1)))
   unfolding pairs_with
   row-end h = let z : n - l ≡ 0 = omega arith in sym (a.kept ∙ rw z (walk_end troots test idx))
 
@@ -72,7 +73,7 @@ module _ {troots : List ℕ} {test : ℕ → Pair → Bool} {needs : ℕ → ℕ
       unfolding pairs_with
       row_on r = let z : n - l ≡ suc (n - (l + 1)) = omega arith in record { kept = a.kept ∙ rw (z, e, add-one l) (walk-on troots test idx _ _ r) }
 
-      pub row-stop : root_at troots test idx (pair k l) ≡ false → cong false idx ≡ walked troots test from (pairs_with needs k (k + 1) (n - (k + 1)))
+      pub row-stop : root_at troots test idx (pair k l) ≡ false → stood false idx ≡ walked troots test from (pairs_with needs k (k + 1) (n - (k + 1)))
       unfolding pairs_with
       row-stop r = let z : n - l ≡ suc (n - (l + 1)) = omega arith in sym (a.kept ∙ rw (z, e) (walk-stop troots test idx _ _ r))
 
@@ -81,20 +82,20 @@ pub record TableKept (troots : List ℕ) (test : ℕ → Pair → Bool) (needs :
   pub kept : walked troots test from (pairs needs 0 n) ≡ walked troots test idx (pairs needs k (n - k))
 
 module _ {troots : List ℕ} {test : ℕ → Pair → Bool} {needs : ℕ → ℕ → Bool} {n from idx k : ℕ} (a : TableKept troots test needs n from idx k) where
-  pub table-end : n ≤ k → cong true idx ≡ walked troots test from (pairs needs 0 n)
+  pub table-end : n ≤ k → stood true idx ≡ walked troots test from (pairs needs 0 n)
   unfolding pairs
   table-end h = let z : n - k ≡ 0 = omega arith in sym (a.kept ∙ rw z (walk_end troots test idx))
 
   -- the pairs of k, then the others
-  module _ (h : k < n) (c : Cong) (row : c ≡ walked troots test idx (pairs_with needs k (k + 1) (n - (k + 1)))) where
-    table-both : walked troots test from (pairs needs 0 n) ≡ cond c.ok (walked troots test c.next (pairs needs (k + 1) (n - (k + 1)))) c
+  module _ (h : k < n) (r : Result ℕ ℕ) (row : r ≡ walked troots test idx (pairs_with needs k (k + 1) (n - (k + 1)))) where
+    table-both : walked troots test from (pairs needs 0 n) ≡ behind (λ next. walked troots test next (pairs needs (k + 1) (n - (k + 1)))) r
     unfolding pairs
     table-both =
         let z : n - k ≡ suc (n - (k + 1)) = omega arith in
         a.kept ∙ rw (z, row, add-one k) (walk-both troots test (pairs_with needs k (suc k) (n - suc k)) _ idx)
 
-    pub table_on : c.ok ≡ true → TableKept troots test needs n from c.next (k + 1)
-    table_on e = record { kept = table-both ∙ rw e }
+    pub table_on : (next : ℕ) → r ≡ Ok next → TableKept troots test needs n from next (k + 1)
+    table_on next e = record { kept = table-both ∙ rw e }
 
-    pub table-stop : c.ok ≡ false → c ≡ walked troots test from (pairs needs 0 n)
-    table-stop e = sym (table-both ∙ rw e)
+    pub table-stop : (at : ℕ) → r ≡ Err at → Err at ≡ walked troots test from (pairs needs 0 n)
+    table-stop at e = sym (table-both ∙ rw e)

@@ -1,23 +1,16 @@
 // Congruence of reads: a root for each pair of read entries that needs one.
-#![tactic(auto)]
+#![tactic(auto, unfolding(lists::specs::Tests::all))]
 
-ghost use Rattle.std.specs.Prelude.{◌≡◌, not, [], ◌∷◌, ◌+◌, ◌*◌, ◌-◌, ◌<◌, ◌≤◌, eqb, ltb, length, get_or};
+ghost use Rattle.std.specs.Prelude.{◌≡◌, ℕ, Bool, not, List, [], ◌∷◌, ◌+◌, ◌*◌, ◌-◌, ◌<◌, ◌≤◌, eqb, ltb, length, get_or, Result};
 ghost use Rattle.lists.specs.Tests.{all};
 ghost use Rattle.rows.specs.Row.{row_count, row_at};
 ghost use Rattle.lowering.specs.Images.{unequal_const};
 ghost use Rattle.lowering.specs.Tables.{read_count, read_array, read_index};
-ghost use Rattle.lowering.specs.Roots.{pairs_with, reads_need, read_pairs, congruent, read_root};
+ghost use Rattle.lowering.specs.Roots.{Pair, pairs_with, pairs, reads_need, read_pairs, congruent, read_root};
 ghost use Rattle.images.specs.Bits.{BitsWithin, ConstsWithin};
 ghost use Rattle.pairs.specs.Walk.{walked, ReadsIn};
 
 use rows::Graph;
-
-// The result of a walk along congruence roots: all stand, and the position after those that do.
-#[derive(Clone, Copy)]
-pub struct Cong {
-    pub ok: bool,
-    pub next: usize,
-}
 
 // Row rp and row b are unequal constants.
 fn const_pair_unequal(target: &[u64], tbits: &[u8], rp: [u64; 5], b: u64) -> bool
@@ -36,10 +29,7 @@ fn read_needs(reads: &[u64], target: &[u64], tbits: &[u8], aid: u64, rp: [u64; 5
         ∷ not (unequal_const tbits.now rp (row_at Graph.Target target.now (read_index reads.now l))) ∷ []) }
 {
     let at = l * 3;
-    if aid != reads[at + 1] {
-        return false;
-    }
-    !const_pair_unequal(target, tbits, rp, reads[at + 2])
+    aid == reads[at + 1] && !const_pair_unequal(target, tbits, rp, reads[at + 2])
 }
 
 // The root at position idx says that vp and vq are equal where xp and xq are.
@@ -55,14 +45,17 @@ fn read_stands(
     ensures test { result ≡ all (ltb idx (length troots.now)
         ∷ congruent target.now (λ _. xp) (λ _. xq) 1 vp vq (get_or troots.now idx 0) ∷ []) }
 {
-    if troots.len() <= idx {
+    let Some(root) = troots.get(idx) else {
         return false;
-    }
-    let a = leads::implication_shape(target, troots[idx], vp, vq);
+    };
+    let Some(a) = leads::implication_shape(target, *root, vp, vq) else {
+        return false;
+    };
     images::is_eq(target, xp, xq, a)
 }
 
-// The pairs of entry k with later ones; their roots stand from idx0 on.
+// The pairs of entry k with later ones; their roots stand from idx0 on. Ok is the position after those that stand, Err that of the first that does
+// not.
 fn array_cong_for(
     reads: &[u64],
     target: &[u64],
@@ -70,7 +63,7 @@ fn array_cong_for(
     troots: &[u64],
     k: usize,
     idx0: usize,
-) -> Cong
+) -> Result<usize, usize>
     requires reads_in { ReadsIn reads.now target.now }
     requires consts_within { ConstsWithin Graph.Target tbits.now target.now }
     requires k_bound { k < read_count reads.now }
@@ -85,46 +78,50 @@ fn array_cong_for(
     let xp = reads[at + 2];
     let rp = rows::row(Graph::Target, target, xp as usize);
     let mut idx = idx0;
-    let mut l = k + 1;
-    while l < n {
+    for l in k + 1..n {
         if read_needs(reads, target, tbits, aid, rp, l) {
             let o = l * 3;
             if !read_stands(target, troots, idx, xp, reads[o + 2], vp, reads[o]) {
-                return Cong {
-                    ok: false,
-                    next: idx,
-                };
+                return Err(idx);
             }
             idx += 1;
         }
-        l += 1;
     }
-    Cong {
-        ok: true,
-        next: idx,
+    Ok(idx)
+}
+
+// The pairs of a table of n entries: those of each entry with later ones, from the position on where those of the entry before end.
+pub fn table_cong<F: Fn(usize, usize) -> Result<usize, usize>>(
+    n: usize,
+    idx0: usize,
+    row: F,
+) -> Result<usize, usize>
+    requires callable { (k idx : ℕ) → k < n → F.pre row k idx }
+    ensures walk { (troots : List ℕ) (test : ℕ → Pair → Bool) (needs : ℕ → ℕ → Bool)
+        → ((k idx : ℕ) (r : Result ℕ ℕ) → k < n → F.post row k idx r → r ≡ walked troots test idx (pairs_with needs k (k + 1) (n - (k + 1))))
+        → result ≡ walked troots test idx0 (pairs needs 0 n) }
+{
+    let mut idx = idx0;
+    for k in 0..n {
+        idx = row(k, idx)?;
     }
+    Ok(idx)
 }
 
 // All pairs of reads of one array but those of unequal constant indices.
-pub fn array_cong(reads: &[u64], target: &[u64], tbits: &[u8], troots: &[u64], idx0: usize) -> Cong
+pub fn array_cong(
+    reads: &[u64],
+    target: &[u64],
+    tbits: &[u8],
+    troots: &[u64],
+    idx0: usize,
+) -> Result<usize, usize>
     requires reads_in { ReadsIn reads.now target.now }
     requires consts_within { ConstsWithin Graph.Target tbits.now target.now }
     ensures walk { result ≡ walked troots.now (read_root reads.now target.now) idx0
         (read_pairs reads.now target.now tbits.now) }
 {
-    let n = tables::read_count(reads);
-    let mut idx = idx0;
-    let mut k = 0;
-    while k < n {
-        let c = array_cong_for(reads, target, tbits, troots, k, idx);
-        if !c.ok {
-            return c;
-        }
-        idx = c.next;
-        k += 1;
-    }
-    Cong {
-        ok: true,
-        next: idx,
-    }
+    table_cong(tables::read_count(reads), idx0, |k, idx| {
+        array_cong_for(reads, target, tbits, troots, k, idx)
+    })
 }

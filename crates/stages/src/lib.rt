@@ -57,28 +57,21 @@ pub fn roots(asked: &Asked, ws: &[u64]) -> Answer
     if lead < eroots.len() {
         return Err(Refusal::RootMismatch(lead as u64));
     }
-    let a = pairs::array_cong(
+    let a = match pairs::array_cong(
         asked.reads,
         asked.target.rows,
         asked.target.bits,
         troots,
         eroots.len(),
-    );
-    if !a.ok {
-        return Err(Refusal::CongruenceMismatch(a.next as u64));
-    }
-    let u = congruence::uf_cong(
-        asked.calls,
-        asked.cargs,
-        asked.target.rows,
-        ws,
-        troots,
-        a.next,
-    );
-    if !u.ok {
-        return Err(Refusal::CongruenceMismatch(u.next as u64));
-    }
-    if u.next != troots.len() {
+    ) {
+        Ok(next) => next,
+        Err(read_at) => return Err(Refusal::CongruenceMismatch(read_at as u64)),
+    };
+    let u = match congruence::uf_cong(asked.calls, asked.cargs, asked.target.rows, ws, troots, a) {
+        Ok(next) => next,
+        Err(call_at) => return Err(Refusal::CongruenceMismatch(call_at as u64)),
+    };
+    if u != troots.len() {
         return Err(Refusal::RootMismatch(0));
     }
     Ok(())

@@ -15,60 +15,12 @@ use Rattle.congruence.proofs.uf_cong_for.Goals.{In-loop-l, After-function_is, Af
 use Rattle.congruence.proofs.uf_cong_for.Goals.{then-function_is+then-call_stands, then-function_is+else-call_stands+else-same_function}
 use Rattle.congruence.proofs.uf_cong_for.Goals.{else-function_is}
 
-pub overflow_mul-at : goal.overflow_mul-at
-overflow_mul-at c = omega (arith, (c.requires.calls_in _ c.requires.k_bound).0)
-
-pub offset_bounds-calls-at : goal.offset_bounds-calls-at
-offset_bounds-calls-at c = omega (arith, (c.requires.calls_in _ c.requires.k_bound).0)
-
-pub bounds-calls-at : goal.bounds-calls-at
-bounds-calls-at c = omega (arith, (c.requires.calls_in _ c.requires.k_bound).0)
-
-pub overflow_add-fid : goal.overflow_add-fid
-overflow_add-fid c = omega (arith, (c.requires.calls_in _ c.requires.k_bound).0)
-
-pub offset_bounds-calls-at-2 : goal.offset_bounds-calls-at-2
-offset_bounds-calls-at-2 c = omega (arith, (c.requires.calls_in _ c.requires.k_bound).0)
-
-pub bounds-calls-at-2 : goal.bounds-calls-at-2
-bounds-calls-at-2 c = omega (arith, (c.requires.calls_in _ c.requires.k_bound).0)
-
-pub overflow_add-sp : goal.overflow_add-sp
-overflow_add-sp c = omega (arith, (c.requires.calls_in _ c.requires.k_bound).0)
-
-pub offset_bounds-calls-at-3 : goal.offset_bounds-calls-at-3
-offset_bounds-calls-at-3 c = omega (arith, (c.requires.calls_in _ c.requires.k_bound).0)
-
-pub bounds-calls-at-3 : goal.bounds-calls-at-3
-bounds-calls-at-3 c = omega (arith, (c.requires.calls_in _ c.requires.k_bound).0)
-
-pub overflow_add-count : goal.overflow_add-count
-overflow_add-count c = omega (arith, (c.requires.calls_in _ c.requires.k_bound).0)
-
-pub offset_bounds-calls-at-4 : goal.offset_bounds-calls-at-4
-offset_bounds-calls-at-4 c = omega (arith, (c.requires.calls_in _ c.requires.k_bound).0)
-
-pub bounds-calls-at-4 : goal.bounds-calls-at-4
-bounds-calls-at-4 c = omega (arith, (c.requires.calls_in _ c.requires.k_bound).0)
-
-pub overflow_add-l : goal.overflow_add-l
-overflow_add-l c = omega (arith, (c.requires.calls_in _ c.requires.k_bound).0)
-
-pub loop-l-init : goal.loop-l-init
-loop-l-init c = (omega (arith, c.call_count-n.ensures.count), record { kept = refl })
-
 -- entry l is whole and its arguments lie in their list
 entry : (c : In-loop-l)
     → let s = c.args in
     let l = c.loop-l.l in
     (l * 4 + 4 ≤ length s.calls.now) × (call_start s.calls.now l + arg_count s.calls.now l ≤ length s.cargs.now)
 entry c = c.requires.calls_in _ (rw c.call_count-n.ensures.count at c.loop-l-test.true)
-
-pub overflow_mul-o : goal.overflow_mul-o
-overflow_mul-o c = omega (arith, (entry (goal.at.overflow_mul-o c).In-loop-l).0)
-
-pub function_is-requires : goal.function_is-requires
-function_is-requires c = (entry (goal.at.function_is-requires c).In-loop-l).0
 
 -- what the calls test
 alike_is : (c : After-function_is) → let s = c.args in c.function_is.result ≡ alike s.calls.now s.cargs.now s.ws.now s.k c.loop-l.l
@@ -98,21 +50,6 @@ stands-is : (c : After-call_stands)
 unfolding root_at
 stands-is c = c.call_stands.ensures.test
 
-pub overflow_add-sq : goal.overflow_add-sq
-overflow_add-sq c = omega (arith, (entry (goal.at.overflow_add-sq c).In-loop-l).0)
-
-pub offset_bounds-calls-o : goal.offset_bounds-calls-o
-offset_bounds-calls-o c = omega (arith, (entry (goal.at.offset_bounds-calls-o c).In-loop-l).0)
-
-pub bounds-calls-o : goal.bounds-calls-o
-bounds-calls-o c = omega (arith, (entry (goal.at.bounds-calls-o c).In-loop-l).0)
-
-pub offset_bounds-calls-o-then-function_is : goal.offset_bounds-calls-o-then-function_is
-offset_bounds-calls-o-then-function_is c = omega (arith, (entry (goal.at.offset_bounds-calls-o-then-function_is c).In-loop-l).0)
-
-pub bounds-calls-o-then-function_is : goal.bounds-calls-o-then-function_is
-bounds-calls-o-then-function_is c = omega (arith, (entry (goal.at.bounds-calls-o-then-function_is c).In-loop-l).0)
-
 pub call_stands-requires : goal.call_stands-requires
 call_stands-requires c =
     let at = goal.at.call_stands-requires c in
@@ -131,7 +68,7 @@ pub returns-then-same_function : goal.returns-then-same_function
 returns-then-same_function c = record {
   walk =
       let at = goal.at.returns-then-same_function c in
-      row-stop c.loop-l.invariant.1 (rw c.call_count-n.ensures.count at c.loop-l-test.true)
+      row-stop c.loop-l.invariant (rw c.call_count-n.ensures.count at c.loop-l-test.true)
       (sym (needs-is at.After-same_function) ∙ c.if-same_function.true) (sym (stands-is at.After-call_stands) ∙ c.if-call_stands.false);
 }
 
@@ -144,18 +81,16 @@ loop-l-preserved c =
     let one = one_function_lem s.target.now s.ws.now c.requires.eqs_even s.calls.now s.cargs.now s.troots.now s.k l.l l.idx in
     let same = same-function-at s.calls.now s.cargs.now s.ws.now _ _ s.k l.l refl refl in
     let other = other-function s.calls.now s.cargs.now s.ws.now s.k l.l in
-    let at = goal.at.loop-l-preserved c in (
-      omega arith,
-      elim c.if-function_is.branch [
-        | then-function_is+then-call_stands w ↦
-            let stands = sym w.call_stands.ensures.test ∙ w.if-call_stands.true in
-            let (f, n, b) = told at.After-function_is w.if-function_is.true in
-            rw w.idx-is (row_on l.invariant.1 h (one stands f n b) stands)
-        | then-function_is+else-call_stands+else-same_function w ↦
-            rw w.idx-is (row-skip l.invariant.1 h (sym same ∙ sym w.same_function.ensures.test ∙ w.if-same_function.false))
-        | else-function_is w ↦ rw w.idx-is (row-skip l.invariant.1 h (other (sym (alike_is at.After-function_is) ∙ w.if-function_is.false)))
-      ],
-    )
+    let at = goal.at.loop-l-preserved c in
+    elim c.if-function_is.branch [
+      | then-function_is+then-call_stands w ↦
+          let stands = sym w.call_stands.ensures.test ∙ w.if-call_stands.true in
+          let (f, n, b) = told at.After-function_is w.if-function_is.true in
+          rw w.idx-is (row_on l.invariant h (one stands f n b) stands)
+      | then-function_is+else-call_stands+else-same_function w ↦
+          rw w.idx-is (row-skip l.invariant h (sym same ∙ sym w.same_function.ensures.test ∙ w.if-same_function.false))
+      | else-function_is w ↦ rw w.idx-is (row-skip l.invariant h (other (sym (alike_is at.After-function_is) ∙ w.if-function_is.false)))
+    ]
 
 pub returns : goal.returns
-returns c = record { walk = row-end c.loop-l.invariant.1 (rw c.call_count-n.ensures.count at c.loop-l-test.false) }
+returns c = record { walk = row-end c.loop-l.invariant (rw c.call_count-n.ensures.count at c.loop-l-test.false) }

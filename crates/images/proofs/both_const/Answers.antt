@@ -1,10 +1,17 @@
 -- Both tags in the definition's order. Assumes nothing.
-use borrow.Author.Tests.{not-true, not-false}
-use Rattle.images.proofs.Constants.{both-no, both_rest}
+use mathlib.Core.Path.{◌∙◌, sym, ap}
+use Rattle.std.specs.Option.{is_some}
+use Rattle.images.proofs.Constants.{both-some, both-none}
 use Rattle.images.proofs.both_const.Goals as goal
 
-pub returns-then-not-c : goal.returns-then-not-c
-returns-then-not-c c = record { test = both-no _ _ _ c.ext_const-c.ensures.constant (not-true _ c.if-not-c.true) }
+pub returns-then-is_some : goal.returns-then-is_some
+returns-then-is_some c = record {
+  test =
+      c.is_some-then-is_some.ensures ∙ ap is_some c.ext_const-then-is_some.ensures.constant
+      ∙ both-some _ _ (sym (ap is_some c.ext_const.ensures.constant) ∙ sym c.is_some.ensures ∙ c.if-is_some.true);
+}
 
-pub returns : goal.returns
-returns c = record { test = both_rest _ _ _ c.ext_const-c.ensures.constant _ c.ext_const-d.ensures.constant (not-false _ c.if-not-c.false) }
+pub returns-else-is_some : goal.returns-else-is_some
+returns-else-is_some c = record {
+  test = c.if-is_some.false ∙ both-none _ _ (sym (ap is_some c.ext_const.ensures.constant) ∙ sym c.is_some.ensures ∙ c.if-is_some.false);
+}

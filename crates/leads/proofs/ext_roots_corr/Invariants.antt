@@ -1,13 +1,9 @@
 -- Invariant: every source root before k has its image in its place; the loop is the search `first`. Assumes nothing.
-use Prim.Native.Nat.{ℕ, ◌≤◌, ◌<◌, ◌-◌}
+use Prim.Native.Nat.{ℕ, ◌<◌}
 use mathlib.Core.Path.{◌≡◌}
 use mathlib.Core.Bool.{false, not}
-use lib.ListN.{length}
 use Rattle.lowering.specs.Roots.{leads}
 use Rattle.leads.proofs.ext_roots_corr.Given as goal
 
 abbrev pub invariant-loop-k : goal.invariant-loop-k
-invariant-loop-k l = (l.k ≤ length l.eroots) × ((j : ℕ) → j < l.k → not (leads l.map l.eroots l.troots j) ≡ false)
-
-abbrev pub decreases-loop-k : goal.decreases-loop-k
-decreases-loop-k l = length l.eroots - l.k
+invariant-loop-k l = (j : ℕ) → j < l.k → not (leads l.map l.eroots l.troots j) ≡ false

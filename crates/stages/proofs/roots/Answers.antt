@@ -21,23 +21,22 @@ returns-then-lead-eroots c = record {
       c.if-lead-eroots.true;
 }
 
-pub returns-then-not-a : goal.returns-then-not-a
-returns-then-not-a c = record {
+pub returns-in-Err : goal.returns-in-Err
+returns-in-Err c = record {
   answer =
-      let at = (goal.at.returns-then-not-a c).After-ext_roots_corr-lead in
+      let at = (goal.at.returns-in-Err c).After-ext_roots_corr-lead in
       let s = c.args in
       read-13 (tables at) (graph at) s.ws.now s.asked.now.map.now s.asked.now.eroots.now s.asked.now.troots.now _ c.ext_roots_corr-lead.ensures.position
-      c.if-lead-eroots.false _ c.array_cong-a.ensures.walk c.if-not-a.true;
+      c.if-lead-eroots.false _ c.in-Err.ensures.walk;
 }
 
-pub returns-then-not-u : goal.returns-then-not-u
-returns-then-not-u c = record {
+pub returns-in-Err-uf_cong : goal.returns-in-Err-uf_cong
+returns-in-Err-uf_cong c = record {
   answer =
-      let at = (goal.at.returns-then-not-u c).After-ext_roots_corr-lead in
+      let at = (goal.at.returns-in-Err-uf_cong c).After-ext_roots_corr-lead in
       let s = c.args in
       call-13 (tables at) (graph at) s.ws.now s.asked.now.map.now s.asked.now.eroots.now s.asked.now.troots.now _ c.ext_roots_corr-lead.ensures.position
-      c.if-lead-eroots.false _ c.array_cong-a.ensures.walk c.if-not-a.false _ c.uf_cong-u.ensures.walk
-      c.if-not-u.true;
+      c.if-lead-eroots.false _ c.in-Ok.ensures.walk _ c.in-Err-uf_cong.ensures.walk;
 }
 
 pub returns-then-u-troots : goal.returns-then-u-troots
@@ -46,8 +45,7 @@ returns-then-u-troots c = record {
       let at = (goal.at.returns-then-u-troots c).After-ext_roots_corr-lead in
       let s = c.args in
       surplus-12 (tables at) (graph at) s.ws.now s.asked.now.map.now s.asked.now.eroots.now s.asked.now.troots.now _ c.ext_roots_corr-lead.ensures.position
-      c.if-lead-eroots.false _ c.array_cong-a.ensures.walk c.if-not-a.false _ c.uf_cong-u.ensures.walk
-      c.if-not-u.false c.if-u-troots.true;
+      c.if-lead-eroots.false _ c.in-Ok.ensures.walk _ c.in-Ok-uf_cong.ensures.walk c.if-u-troots.true;
 }
 
 pub returns : goal.returns
@@ -56,6 +54,5 @@ returns c = record {
       let at = (goal.at.returns c).After-ext_roots_corr-lead in
       let s = c.args in
       roots-good (tables at) (graph at) s.ws.now s.asked.now.map.now s.asked.now.eroots.now s.asked.now.troots.now _ c.ext_roots_corr-lead.ensures.position
-      c.if-lead-eroots.false _ c.array_cong-a.ensures.walk c.if-not-a.false _ c.uf_cong-u.ensures.walk
-      c.if-not-u.false c.if-u-troots.false;
+      c.if-lead-eroots.false _ c.in-Ok.ensures.walk _ c.in-Ok-uf_cong.ensures.walk c.if-u-troots.false;
 }
