@@ -2,7 +2,7 @@
 #![tactic(auto)]
 
 ghost use Rattle.std.specs.Prelude.{◌≡◌};
-ghost use Rattle.answers.specs.Answer.{words_of, is_accepted};
+ghost use Rattle.answers.specs.Answer.{words_of};
 ghost use Rattle.answers.specs.Refusal.{words, words_of_refusal};
 
 // Why an operation refuses, with the values that the refusal names.
@@ -139,17 +139,4 @@ impl From<Answer> for Words {
             Err(refusal) => Words::from(refusal),
         }
     }
-}
-
-// The same as a function, whose promise stands in a clause.
-pub fn words_of(answer: Answer) -> Words
-    ensures words { result ≡ words_of answer }
-{
-    Words::from(answer)
-}
-
-pub fn is_accepted(answer: Answer) -> bool
-    ensures test { result ≡ is_accepted answer }
-{
-    answer.is_ok()
 }
