@@ -85,9 +85,11 @@ fn chain_walk(asked: &Asked, j: u64, k: u64, s: u64, r: u64) -> Walk
 
 // A Select row against its image, target row r.
 pub fn select_corr(asked: &Asked, ent: &[u64], cls: &mut [u64], e: [u64; 5], r: usize) -> bool
-    requires e_bound { (get_or e 2 0 < row_count Graph.Source asked.now.source.rows.now) × PairsWithin asked.now.source.rows.now asked.now.source.side.now (get_or e 3 0) (get_or e 4 0)
+    requires e_bound { (get_or e 2 0 < row_count Graph.Source asked.now.source.rows.now)
+        × PairsWithin asked.now.source.rows.now asked.now.source.side.now (get_or e 3 0) (get_or e 4 0)
         × ConstsWithin Graph.Source asked.now.source.bits.now asked.now.source.rows.now }
-    requires ent_len { (length ent.now ≡ row_count Graph.Target asked.now.target.rows.now) × (length cls.old ≡ row_count Graph.Target asked.now.target.rows.now) }
+    requires ent_len { (length ent.now ≡ row_count Graph.Target asked.now.target.rows.now) × (length cls.old
+        ≡ row_count Graph.Target asked.now.target.rows.now) }
     ensures test { result ≡ end_good asked.now.map.now asked.now.reads.now asked.now.target.rows.now (noted cls.old ent.now)
         (get_or e 1 0) (get_or e 2 0) (walk (lowering_of asked.now).source
         asked.now.map.now asked.now.target.rows.now (get_or e 2 0) (get_or e 4 0) (get_or e 3 0) r) }

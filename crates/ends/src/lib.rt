@@ -23,7 +23,8 @@ fn read_class(c: u64) -> bool
 
 // Target row r is the read variable of array a at the image of row j.
 fn base_read_ok(asked: &Asked, ent: &[u64], cls: &[u64], a: u64, j: u64, r: u64) -> bool
-    requires { (length ent.now ≡ row_count Graph.Target asked.now.target.rows.now) × (length cls.now ≡ row_count Graph.Target asked.now.target.rows.now) }
+    requires { (length ent.now ≡ row_count Graph.Target asked.now.target.rows.now) × (length cls.now
+        ≡ row_count Graph.Target asked.now.target.rows.now) }
     ensures test { result ≡ end_good asked.now.map.now asked.now.reads.now asked.now.target.rows.now
         (noted cls.now ent.now) a j (Walk.RanOut r) }
 {
@@ -48,7 +49,8 @@ fn base_read_ok(asked: &Asked, ent: &[u64], cls: &[u64], a: u64, j: u64, r: u64)
 
 // The read variable that a walk reaches becomes 4.
 fn base_read(asked: &Asked, ent: &[u64], cls: &mut [u64], a: u64, j: u64, r: u64) -> bool
-    requires { (length ent.now ≡ row_count Graph.Target asked.now.target.rows.now) × (length cls.old ≡ row_count Graph.Target asked.now.target.rows.now) }
+    requires { (length ent.now ≡ row_count Graph.Target asked.now.target.rows.now) × (length cls.old
+        ≡ row_count Graph.Target asked.now.target.rows.now) }
     ensures test { result ≡ end_good asked.now.map.now asked.now.reads.now asked.now.target.rows.now
         (noted cls.old ent.now) a j (Walk.RanOut r) }
     ensures list { cls.new ≡ cond result (set cls.old r 4) cls.old }
@@ -63,7 +65,8 @@ fn base_read(asked: &Asked, ent: &[u64], cls: &mut [u64], a: u64, j: u64, r: u64
 
 // Where the walk for array a and index row j ends.
 pub fn walk_end(asked: &Asked, ent: &[u64], cls: &mut [u64], a: u64, j: u64, w: Walk) -> bool
-    requires { (length ent.now ≡ row_count Graph.Target asked.now.target.rows.now) × (length cls.old ≡ row_count Graph.Target asked.now.target.rows.now) }
+    requires { (length ent.now ≡ row_count Graph.Target asked.now.target.rows.now) × (length cls.old
+        ≡ row_count Graph.Target asked.now.target.rows.now) }
     ensures test { result ≡ end_good asked.now.map.now asked.now.reads.now asked.now.target.rows.now
         (noted cls.old ent.now) a j w }
     ensures list { cls.new ≡ cond result (end_classes cls.old w) cls.old }

@@ -1,4 +1,5 @@
--- What Check is asked, from the lists that are lent: what the references show. Assumes nothing.
+-- What Check is asked, from the lists that are lent: what the references show.
+-- Inner: contracts within the code cite it; no answer's definition does. Assumes nothing.
 use Rattle.sorts.specs.Sorts.{edition_given}
 use Rattle.lowering.specs.declared.Asked.{Asked}
 use Rattle.lowering.specs.Lowering.{Lowering, lowering_in}

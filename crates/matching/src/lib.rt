@@ -86,7 +86,8 @@ fn matched(b: bool, refusal: Refusal) -> Answer
 // Source row i against its image, target row r.
 fn row_corr(asked: &Asked, ent: &[u64], cls: &mut [u64], i: usize, r: usize) -> Answer
     requires formed { Formed (lowering_of asked.now).source (lowering_of asked.now).target }
-    requires ent_len { (length ent.now ≡ row_count Graph.Target asked.now.target.rows.now) × (length cls.old ≡ row_count Graph.Target asked.now.target.rows.now) }
+    requires ent_len { (length ent.now ≡ row_count Graph.Target asked.now.target.rows.now) × (length cls.old
+        ≡ row_count Graph.Target asked.now.target.rows.now) }
     requires i_bound { (i < row_count Graph.Source asked.now.source.rows.now) × (r < row_count Graph.Target asked.now.target.rows.now) }
     ensures answer { result ≡ node_answer (binding_of (lowering_of asked.now))
         (noted cls.old ent.now) i r (node_of (row_at Graph.Source asked.now.source.rows.now i)) }
@@ -122,7 +123,8 @@ fn row_corr(asked: &Asked, ent: &[u64], cls: &mut [u64], i: usize, r: usize) -> 
 // Source row i: nothing is asked where it has no image.
 fn ext_step(asked: &Asked, ent: &[u64], cls: &mut [u64], i: usize) -> Answer
     requires formed { Formed (lowering_of asked.now).source (lowering_of asked.now).target }
-    requires ent_len { (length ent.now ≡ row_count Graph.Target asked.now.target.rows.now) × (length cls.old ≡ row_count Graph.Target asked.now.target.rows.now) }
+    requires ent_len { (length ent.now ≡ row_count Graph.Target asked.now.target.rows.now) × (length cls.old
+        ≡ row_count Graph.Target asked.now.target.rows.now) }
     requires i_bound { i < row_count Graph.Source asked.now.source.rows.now }
     ensures answer { result ≡ row_answer (binding_of (lowering_of asked.now))
         (noted cls.old ent.now) i }
@@ -143,7 +145,8 @@ fn ext_step(asked: &Asked, ent: &[u64], cls: &mut [u64], i: usize) -> Answer
 // All rows in order, up to the first that is refused.
 pub fn ext_rows(asked: &Asked, ent: &[u64], cls: &mut [u64]) -> Answer
     requires formed { Formed (lowering_of asked.now).source (lowering_of asked.now).target }
-    requires ent_len { (length ent.now ≡ row_count Graph.Target asked.now.target.rows.now) × (length cls.old ≡ row_count Graph.Target asked.now.target.rows.now) }
+    requires ent_len { (length ent.now ≡ row_count Graph.Target asked.now.target.rows.now) × (length cls.old
+        ≡ row_count Graph.Target asked.now.target.rows.now) }
     ensures answer { result ≡ all_rows_answer (binding_of (lowering_of asked.now))
         (noted cls.old ent.now) }
     ensures list { cls.new ≡ classes_to (binding_of (lowering_of asked.now))

@@ -1,5 +1,6 @@
 -- The sorts of arrays, an index width and a cell width each, and the table that lists them (01, 'Well-formedness'; 02, 2.9). Assumes nothing.
-use Rattle.std.specs.Prelude.{ℕ, zero, suc, ◌+◌, ◌*◌, ◌/◌, Bool, true, false, not, cond, List, [], ◌∷◌, eqb, ltb, leb, length, get_or, Option, Some, None}
+use Rattle.std.specs.Prelude.{ℕ, zero, suc, ◌+◌, ◌*◌, ◌/◌, Bool, true, false, not, cond, List, [], ◌∷◌, eqb, ltb, leb, length, get_or}
+use Rattle.std.specs.Prelude.{Option, Some, None}
 use Rattle.std.specs.Borrow.{Bor}
 use Rattle.answers.specs.Answer.{Answer}
 use Rattle.answers.specs.Answer.{Accepted, SortTable}

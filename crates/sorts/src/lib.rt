@@ -2,7 +2,8 @@
 #![tactic(auto)]
 
 ghost use Rattle.std.specs.Prelude.{◌≡◌, ℕ, ◌+◌, ◌*◌, ◌<◌, ◌≤◌, length};
-ghost use Rattle.sorts.specs.Sorts.{sort_count, array_at, index_at, cell_at, entry_of, edition_given, second_edition, sorts_of, rises, sort_good, sort_answer};
+ghost use Rattle.sorts.specs.Sorts.{sort_count, array_at, index_at, cell_at, entry_of, edition_given, second_edition, sorts_of};
+ghost use Rattle.sorts.specs.Sorts.{rises, sort_good, sort_answer};
 ghost use Rattle.sorts.specs.Good.{Good};
 
 use answers::{Answer, Refusal};

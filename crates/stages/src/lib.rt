@@ -23,7 +23,8 @@ pub fn entries(asked: &Asked, ws: &[u64], cls: &mut [u64], ent: &mut [u64]) -> A
     requires cls_len { length cls.old ≡ row_count Graph.Target asked.now.target.rows.now }
     requires ent_len { length ent.old ≡ row_count Graph.Target asked.now.target.rows.now }
     requires good { Good (lowering_of asked.now).edition }
-    ensures answer { result ≡ first_refusal (table_answers (sorts_of (lowering_of asked.now).edition) (entries_of (lowering_of asked.now)) asked.now.target.rows.now ws.now cls.old) }
+    ensures answer { result ≡ first_refusal (table_answers (sorts_of (lowering_of asked.now).edition) (entries_of
+        (lowering_of asked.now)) asked.now.target.rows.now ws.now cls.old) }
     ensures classes { is_accepted result ≡ true → cls.new
         ≡ call_classes asked.now.calls.now (read_classes asked.now.reads.now cls.old (read_count asked.now.reads.now))
         (call_count asked.now.calls.now) }

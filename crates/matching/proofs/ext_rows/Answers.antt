@@ -42,7 +42,9 @@ returns-in_err-ext_step c =
     let e = c.ext_step.ensures in
     let p =
     rows-stop (asked at) (known at) l.i l.cls l.invariant.2 l.invariant.1 _ _ (rw c.row_count-i-end.ensures.count at c.loop-i-test.true)
-    e.answer e.list (ap refusal c.in_err-ext_step.was) in record { answer = let q = err_from_is_err_and c.from_residual.result c.from_residual.ensures.1 in rw (q.1, q.2) (sym c.in_err-ext_step.was ∙ p.0); list = p.1 }
+    e.answer e.list (ap refusal c.in_err-ext_step.was) in
+    let q = err_from_is_err_and c.from_residual.result c.from_residual.ensures.1 in
+    record { answer = rw (q.1, q.2) (sym c.in_err-ext_step.was ∙ p.0); list = p.1 }
 
 pub loop-i-preserved : goal.loop-i-preserved
 loop-i-preserved c =

@@ -17,7 +17,8 @@ returns-then-lead-eroots c = record {
   answer =
       let at = (goal.at.returns-then-lead-eroots c).After-ext_roots_corr-lead in
       let s = c.args in
-      lead-12 (tables at) (graph at) s.ws.now s.asked.now.map.now s.asked.now.eroots.now s.asked.now.troots.now _ c.ext_roots_corr-lead.ensures.position
+      lead-12 (tables at) (graph at) s.ws.now s.asked.now.map.now s.asked.now.eroots.now s.asked.now.troots.now _
+      c.ext_roots_corr-lead.ensures.position
       c.if-lead-eroots.true;
 }
 
@@ -26,7 +27,8 @@ returns-in-Err c = record {
   answer =
       let at = (goal.at.returns-in-Err c).After-ext_roots_corr-lead in
       let s = c.args in
-      read-13 (tables at) (graph at) s.ws.now s.asked.now.map.now s.asked.now.eroots.now s.asked.now.troots.now _ c.ext_roots_corr-lead.ensures.position
+      read-13 (tables at) (graph at) s.ws.now s.asked.now.map.now s.asked.now.eroots.now s.asked.now.troots.now _
+      c.ext_roots_corr-lead.ensures.position
       c.if-lead-eroots.false _ c.in-Err.ensures.walk;
 }
 
@@ -35,7 +37,8 @@ returns-in-Err-uf_cong c = record {
   answer =
       let at = (goal.at.returns-in-Err-uf_cong c).After-ext_roots_corr-lead in
       let s = c.args in
-      call-13 (tables at) (graph at) s.ws.now s.asked.now.map.now s.asked.now.eroots.now s.asked.now.troots.now _ c.ext_roots_corr-lead.ensures.position
+      call-13 (tables at) (graph at) s.ws.now s.asked.now.map.now s.asked.now.eroots.now s.asked.now.troots.now _
+      c.ext_roots_corr-lead.ensures.position
       c.if-lead-eroots.false _ c.in-Ok.ensures.walk _ c.in-Err-uf_cong.ensures.walk;
 }
 
@@ -44,7 +47,9 @@ returns-then-u-troots c = record {
   answer =
       let at = (goal.at.returns-then-u-troots c).After-ext_roots_corr-lead in
       let s = c.args in
-      surplus-12 (tables at) (graph at) s.ws.now s.asked.now.map.now s.asked.now.eroots.now s.asked.now.troots.now _ c.ext_roots_corr-lead.ensures.position
+      surplus-12 (tables at)
+          (graph at) s.ws.now s.asked.now.map.now s.asked.now.eroots.now s.asked.now.troots.now _
+      c.ext_roots_corr-lead.ensures.position
       c.if-lead-eroots.false _ c.in-Ok.ensures.walk _ c.in-Ok-uf_cong.ensures.walk c.if-u-troots.true;
 }
 
@@ -53,6 +58,8 @@ returns c = record {
   answer =
       let at = (goal.at.returns c).After-ext_roots_corr-lead in
       let s = c.args in
-      roots-good (tables at) (graph at) s.ws.now s.asked.now.map.now s.asked.now.eroots.now s.asked.now.troots.now _ c.ext_roots_corr-lead.ensures.position
+      roots-good (tables at)
+          (graph at) s.ws.now s.asked.now.map.now s.asked.now.eroots.now s.asked.now.troots.now _
+      c.ext_roots_corr-lead.ensures.position
       c.if-lead-eroots.false _ c.in-Ok.ensures.walk _ c.in-Ok-uf_cong.ensures.walk c.if-u-troots.false;
 }
