@@ -1,4 +1,4 @@
-// From text to words: lines, and in a line lower-case hexadecimal numbers with single spaces between.
+// From a line to words: lower-case hexadecimal numbers with single spaces between.
 #![tactic(auto)]
 
 ghost use Rattle.std.specs.Prelude.{◌≡◌, ◌+◌, ◌≤◌, length, take, drop, slice_index, IfSome, is_none};
@@ -11,17 +11,6 @@ ghost use Rattle.text.specs.Line.{digit_of, digits, number, good_digits, word_en
 struct Token {
     value: u64,
     next: usize,
-}
-
-// The place of the next line end, or the text's length.
-pub fn line_end(text: &[u8], from: usize) -> usize
-    requires { from ≤ length text.now }
-    ensures place { (from ≤ result) × (result ≤ length text.now) }
-{
-    match text[from..].iter().position(|b| *b == b'\n') {
-        Some(n) => from + n,
-        None => text.len(),
-    }
 }
 
 // The value of a digit. By hand: `to_digit` takes upper case too.
