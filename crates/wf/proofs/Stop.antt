@@ -14,7 +14,10 @@ use Rattle.rows.specs.Row.{row_count, row_at}
 use Rattle.rows.specs.Node.{node_of}
 use Rattle.encoding.specs.Encoding.{tag_count, row_good, row_bad, bad_row}
 use Rattle.encoding.proofs.Encoding.{tags-in}
+use Rattle.rules.specs.declared.lines.Join.TheVariants as join
 use Rattle.rules.specs.declared.lines.Line.{Line}
+use Rattle.rules.specs.declared.lines.Operands.TheVariants as operand
+use Rattle.rules.specs.declared.lines.WidthFrom.TheVariants as source
 use Rattle.rules.specs.Rule.{capped, node_width}
 use Rattle.rules.specs.Table.{line, table, line_width}
 use Rattle.rules.proofs.Table.{line-rule}
@@ -32,8 +35,9 @@ module _ (σ : Sorts) (graph : Graph) (nbits : ℕ) (side g : List ℕ) where
 
   -- the width that the line of a row's tag gives it
   abbrev by-line : List ℕ → List ℕ → List Line → ℕ
-  by-line ws r lines = line_width σ nbits side ws (get_or lines (get_or r 0 0) (line 0 0 0)) (get_or r 1 0) (get_or r 2 0) (get_or r 3 0)
-      (get_or r 4 0)
+  by-line ws r lines =
+      let l = get_or lines (get_or r 0 0) (line operand.Empty join.Any source.One) in
+      line_width σ nbits side ws l (get_or r 1 0) (get_or r 2 0) (get_or r 3 0) (get_or r 4 0)
 
   -- a row whose tag there is: its line gives the width of a good row, and none to a bad one; what passes the ceiling is none
   pub line-good : (i : ℕ) (ws : List ℕ) (lines : List Line) (r : List ℕ) → lines ≡ table → r ≡ row_at graph g i → get_or r 0 0 < tag_count graph

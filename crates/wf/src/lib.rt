@@ -39,8 +39,7 @@ fn rows_wf(
         × (result < to → row_stops σ graph nbits side.now g.now result ≡ true) }
 {
     let tags = encoding::tag_count(graph);
-    let mut i = from;
-    while i < to {
+    for i in from..to {
         let r = rows::row(graph, g, i);
         if tags <= r[0] {
             return i;
@@ -55,9 +54,8 @@ fn rows_wf(
             return i;
         }
         ws[i] = w;
-        i += 1;
     }
-    i
+    to
 }
 
 // Whether a row reads another array; what is asked is that no other is read where it says no.
@@ -80,14 +78,12 @@ fn part_end(graph: Graph, g: &[u64], from: usize, array: u64) -> usize
         → get_or (row_at graph g.now j) 1 0 ≡ array }
 {
     let n = rows::row_count(graph, g);
-    let mut i = from + 1;
-    while i < n {
+    for i in from + 1..n {
         if reads_other(rows::row(graph, g, i), array) {
             return i;
         }
-        i += 1;
     }
-    i
+    n
 }
 
 // The pass over all rows of a second edition, in parts that read one array: a sort is looked up once a part, and the loop over its rows is that of a
@@ -149,15 +145,14 @@ pub fn graph_wf(
 }
 
 // The position of the first root that names no row of one bit, or the number of roots.
+// By hand: std's `position` takes 4 instructions a root more.
 pub fn roots_wf(ws: &[u64], roots: &[u64]) -> usize
     ensures position { result ≡ bad_root ws.now roots.now }
 {
-    let mut r = 0;
-    while r < roots.len() {
-        if !sides::has_width(ws, roots[r], 1) {
+    for (r, root) in roots.iter().enumerate() {
+        if !sides::has_width(ws, *root, 1) {
             return r;
         }
-        r += 1;
     }
-    r
+    roots.len()
 }

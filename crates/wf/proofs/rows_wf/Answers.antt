@@ -1,17 +1,14 @@
 -- The goals that search leaves open. Assumes nothing.
-use Prim.Native.Nat.{ℕ, ◌+◌, ◌≤◌, ◌<◌, ◌-◌}
-use mathlib.Core.Path.{◌≡◌, refl, ◌∙◌, sym, ap}
+use Prim.Native.Nat.{ℕ, ◌+◌, ◌≤◌, ◌<◌}
+use mathlib.Core.Path.{◌≡◌, ◌∙◌, sym, ap, subst}
 use mathlib.Core.Bool.{true}
 use mathlib.Core.List.{List, ◌++◌}
 use native.Mathlib.Omega.{arith}
 use borrow.Author.Count.{below_more}
 use borrow.Author.Tests.{eq-eqb, ne_eqb, le-ltb}
-use lib.ListN.{length, get_or, set, take, drop, length-set}
-use lib.Seq.{length-take-le}
+use lib.ListN.{length, set, take, drop, length-set}
 use Rattle.lists.specs.Build.{build}
 use Rattle.lists.proofs.Build.{build-front, build-store}
-use Rattle.encoding.specs.Encoding.{tag_count}
-use Rattle.encoding.proofs.Encoding.{tags-in}
 use Rattle.sorts.specs.Sorts.{Sorts}
 use Rattle.sorts.specs.Every.{every}
 use Rattle.rules.specs.Rule.{capped}
@@ -28,45 +25,14 @@ stored : (f : ℕ → List ℕ → ℕ) (ws₀ ws : List ℕ) (i w : ℕ) → ws
     → set ws i w ≡ build f (i + 1) ++ drop (i + 1) ws₀
 stored f ws₀ ws i w e q h = rw (e, q) (build-store f ws₀ 0 i h)
 
-pub loop-i-init : goal.loop-i-init
-loop-i-init c = (omega arith, c.requires.from_le_to.0, refl, λ σ base one start. start)
-
-pub row-r-requires : goal.row-r-requires
-row-r-requires c = omega (arith, c.loop-i-test.true, c.requires.from_le_to.1)
-
 pub returns-then-tags-r : goal.returns-then-tags-r
 returns-then-tags-r c =
     let l = c.loop-i in
     let bad = le-ltb _ _ (rw (c.tag_count-tags.ensures.count, c.row-r.ensures.row) at c.if-tags-r.true) in
     record {
-      place = (l.invariant.0, l.invariant.1);
-      part = λ σ base one start. (l.invariant.3 σ base one start, λ h. rw bad);
+      place = (omega arith, omega arith);
+      part = λ σ base one start. (l.invariant.1 σ base one start, λ h. rw bad);
     }
-
--- the tag is one of the graph's, so it has a line
-below : (c : goal.Else-tags-r)
-    → get_or c.row-r.result 0 0 < tag_count c.args.graph
-below c = rw c.tag_count-tags.ensures.count at c.if-tags-r.false
-
-tag_in : (c : goal.Else-tags-r) → get_or c.row-r.result 0 0 < 39
-tag_in c = omega (arith, below c, tags-in c.args.graph)
-
-pub offset_bounds-lines-t : goal.offset_bounds-lines-t
-offset_bounds-lines-t c = let h = tag_in c in record { fits = omega (arith, h) }
-
-pub bounds-lines-t : goal.bounds-lines-t
-bounds-lines-t c = tag_in c
-
-pub slice_bounds-line_width-end : goal.slice_bounds-line_width-end
-slice_bounds-line_width-end c =
-    let p = c.requires.from_le_to in
-    omega (arith, c.loop-i-test.true, c.loop-i.invariant.2, p.1, p.2)
-
-pub slice_bounds-line_width-end-in-loop-i : goal.slice_bounds-line_width-end-in-loop-i
-slice_bounds-line_width-end-in-loop-i c =
-    let p = c.requires.from_le_to in
-    let within : c.loop-i.i ≤ length c.loop-i.ws = omega (arith, c.loop-i-test.true, c.loop-i.invariant.2, p.1, p.2) in
-    sym (length-take-le _ _ within)
 
 -- what the call gives, over the widths before row i, within the ceiling
 width_is : (c : After-line_width-w)
@@ -85,7 +51,7 @@ width_is c σ base one reached =
     row.result c.requires.lines_value row.ensures.row
     (rw c.tag_count-tags.ensures.count at c.if-tags-r.false)
     ∙ part-width σ s.graph s.nbits s.side.now s.g.now s.from s.to s.sort.index s.sort.cell l.i (take l.i l.ws)
-    one l.invariant.0 c.loop-i-test.true
+    one (omega arith) c.loop-i-test.true
     ∙ ap (good_width σ s.graph s.nbits s.side.now s.g.now l.i) (ap (take l.i) reached.list ∙ build-front _ l.i _)
 
 -- a row without one is where the pass stops
@@ -99,9 +65,9 @@ stops : (c : After-line_width-w) → capped c.line_width-w.result ≡ 0
     × (l.i < s.to → row_stops σ s.graph s.nbits s.side.now s.g.now l.i ≡ true))
 stops c e =
     let l = c.loop-i in (
-      (l.invariant.0, l.invariant.1),
+      (omega arith, omega arith),
       λ σ base one start.
-          let reached = l.invariant.3 σ base one start in
+          let reached = l.invariant.1 σ base one start in
           (reached, λ h. eq-eqb _ _ (sym (width_is c σ base one reached) ∙ e)),
     )
 
@@ -114,11 +80,6 @@ returns-then-w-gt-CEILING c =
     let p = stops (goal.at.returns-then-w-gt-CEILING c).After-line_width-w (capped-over c.line_width-w.result (omega arith)) in
     record { place = p.0; part = p.1 }
 
-pub bounds-ws-i : goal.bounds-ws-i
-bounds-ws-i c =
-    let p = c.requires.from_le_to in
-    omega (arith, c.loop-i-test.true, c.loop-i.invariant.2, p.1, p.2)
-
 -- the next row is reached
 on : (c : After-line_width-w) → (c.line_width-w.result ≡ 0 → ⊥) → c.line_width-w.result ≤ 4096
     → let s = c.args in
@@ -129,12 +90,12 @@ on : (c : After-line_width-w) → (c.line_width-w.result ≡ 0 → ⊥) → c.li
 on c some in-ceiling σ base one start =
     let s = c.args in
     let l = c.loop-i in
-    let reached = l.invariant.3 σ base one start in
+    let reached = l.invariant.1 σ base one start in
     let width = sym (capped-in c.line_width-w.result in-ceiling) ∙ width_is c σ base one reached in
     let goes = ne_eqb _ _ (λ z. some (width ∙ z)) in
     let p = c.requires.from_le_to in
     let room : l.i < length base =
-    omega (arith, reached.whole, l.invariant.2, c.loop-i-test.true, p.1, p.2) in
+    omega (arith, reached.whole, l.invariant.0, c.loop-i-test.true, p.1, p.2) in
     record {
       whole = simp length-set reached.whole;
       list = stored (row_width σ s.graph s.nbits s.side.now s.g.now) base l.ws l.i _ reached.list
@@ -145,10 +106,17 @@ on c some in-ceiling σ base one start =
 pub loop-i-preserved : goal.loop-i-preserved
 loop-i-preserved c =
     let l = c.loop-i in
-    (omega arith, omega arith, simp length-set l.invariant.2, on (goal.at.loop-i-preserved c).After-line_width-w c.if-w-eq0.false (omega arith))
+    (simp length-set l.invariant.0, on (goal.at.loop-i-preserved c).After-line_width-w c.if-w-eq0.false (omega arith))
 
 pub returns : goal.returns
-returns c = record {
-  place = let l = c.loop-i in (l.invariant.0, l.invariant.1);
-  part = let l = c.loop-i in λ σ base one start. (l.invariant.3 σ base one start, λ h. absurd (omega arith));
-}
+returns c =
+    let s = c.args in
+    let l = c.loop-i in
+    let done : l.i ≡ s.to = omega arith in
+    record {
+      place = let p = c.requires.from_le_to in (p.0, omega arith);
+      part = λ σ base one start. (
+        subst (λ (k : ℕ). Reached σ s.graph s.nbits s.side.now s.g.now base l.ws k) done (l.invariant.1 σ base one start),
+        λ h. absurd (omega arith),
+      );
+    }

@@ -1,5 +1,5 @@
 -- Invariant: under any sorts that are one for the reads here, the pass is at row i if it was at the first. Assumes nothing.
-use Prim.Native.Nat.{ℕ, ◌≤◌, ◌-◌}
+use Prim.Native.Nat.{ℕ}
 use mathlib.Core.Path.{◌≡◌}
 use mathlib.Core.List.{List}
 use lib.ListN.{length}
@@ -9,9 +9,6 @@ use Rattle.wf.proofs.rows_wf.Given as goal
 
 abbrev pub invariant-loop-i : goal.invariant-loop-i
 invariant-loop-i l =
-    (l.from ≤ l.i) × (l.i ≤ l.to) × (length l.ws ≡ length l.initial.ws) ×
+    (length l.ws ≡ length l.initial.ws) ×
     ((σ : Sorts) (base : List ℕ) → OneSort σ l.graph l.g l.from l.to l.sort.index l.sort.cell
     → Reached σ l.graph l.nbits l.side l.g base l.initial.ws l.from → Reached σ l.graph l.nbits l.side l.g base l.ws l.i)
-
-abbrev pub decreases-loop-i : goal.decreases-loop-i
-decreases-loop-i l = l.to - l.i
