@@ -16,10 +16,7 @@ use rows::Graph;
 fn call_class(c: u64) -> bool
     ensures test { result ≡ either c 3 5 }
 {
-    if c == 3 {
-        return true;
-    }
-    c == 5
+    matches!(c, 3 | 5)
 }
 
 // The images of the k arguments from s on are the rows from cs on.
@@ -29,12 +26,11 @@ fn args_match(eside: &[u64], map: &[u64], cargs: &[u64], s: usize, cs: usize, k:
     ensures test { result ≡ agree (mapped_arg map.now eside.now s)
         (λ l. get_or cargs.now (cs + l) 0) k }
 {
-    let mut l = 0;
-    while l < k {
+    // By place: where k is 0, s may lie past the list, so no slice of it starts there.
+    for l in 0..k {
         if images::map_at(map, eside[s + l]) != cargs[cs + l] {
             return false;
         }
-        l += 1;
     }
     true
 }

@@ -15,10 +15,7 @@ use rows::Graph;
 fn read_class(c: u64) -> bool
     ensures test { result ≡ either c 2 4 }
 {
-    if c == 2 {
-        return true;
-    }
-    c == 4
+    matches!(c, 2 | 4)
 }
 
 // Target row r is the read variable of array a at the image of row j.

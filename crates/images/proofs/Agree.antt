@@ -1,6 +1,6 @@
--- What a loop keeps that compares two sequences place by place: those before j agree. Assumes nothing.
-use Prim.Native.Nat.{ℕ, suc, ◌+◌, ◌-◌, ◌<◌, ◌≤◌, zero-le}
-use mathlib.Core.Path.{◌≡◌, refl, sym, ap, ◌∙◌}
+-- Two sequences compared place by place: by a loop, as slices, pair by pair. Assumes nothing.
+use Prim.Native.Nat.{ℕ, suc, ◌+◌, ◌-◌, ◌<◌, ◌≤◌}
+use mathlib.Core.Path.{◌≡◌, sym, ap, ◌∙◌}
 use mathlib.Core.Bool.{Bool, true, false, not, cond, ◌&&◌}
 use mathlib.Core.List.{List, [], ◌∷◌}
 use native.Mathlib.Nat.{not-suc-le-zero}
@@ -20,12 +20,10 @@ use Rattle.lists.specs.Tests.{agree}
 use Rattle.lists.proofs.First.{first-same}
 use Rattle.lists.proofs.Tests.{agree_at, agree-yes, agree-no}
 
+-- what a loop keeps: the places before j agree
 module _ (f g : ℕ → ℕ) (n : ℕ) where
   abbrev pub Agreed : ℕ → Type 0
   Agreed j = (j ≤ n) × ((k : ℕ) → k < j → f k ≡ g k)
-
-  pub agreed-none : Agreed 0
-  agreed-none = (zero-le, λ k h. absurd (not-suc-le-zero h))
 
   module _ (j : ℕ) (a : Agreed j) where
     pub agreed-more : j < n → f j ≡ g j → Agreed (j + 1)

@@ -11,7 +11,6 @@ ghost use Rattle.lowering.specs.Matching.{noted, var_matches, node_matches, matc
 ghost use Rattle.lowering.specs.Matching.{classes_to, refused_row, all_rows_answer, dead_entry};
 ghost use Rattle.rows.specs.declared.Graph.{Graph};
 ghost use Rattle.rows.specs.Row.{row_count, row_at};
-ghost use Rattle.rows.specs.Tags.{either};
 ghost use Rattle.rows.specs.Node.{node_of};
 ghost use Rattle.matching.specs.Ready.{Formed};
 
@@ -19,28 +18,12 @@ use answers::{Answer, Refusal};
 use lowering::Asked;
 use rows::{Graph, MAX, tag};
 
-// The classes of a read or call variable that nothing has reached.
-fn dead_class(c: u64) -> bool
-    ensures test { result ≡ either c 2 3 }
-{
-    if c == 2 {
-        return true;
-    }
-    c == 3
-}
-
-// The first variable whose entry nothing has reached, or the number of rows.
+// The first variable whose entry nothing has reached, which is in class 2 or 3, or the number of rows.
 pub fn dead_entry(cls: &[u64]) -> u64
     ensures variable { result ≡ dead_entry cls.now (length cls.now) }
 {
-    let mut i = 0;
-    while i < cls.len() {
-        if dead_class(cls[i]) {
-            return i as u64;
-        }
-        i += 1;
-    }
-    i as u64
+    let dead = cls.iter().position(|c| matches!(*c, 2 | 3));
+    dead.unwrap_or(cls.len()) as u64
 }
 
 // The core rows: a variable, which claims its image, a constant, any other.

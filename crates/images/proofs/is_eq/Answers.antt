@@ -13,5 +13,6 @@ returns-then-r-row_count c = record {
 }
 
 pub returns-else-r-row_count : goal.returns-else-r-row_count
-returns-else-r-row_count c = record { test = le-ltb _ _ c.if-r-row_count.false
-    ∙ sym (eq-out _ _ _ _ (rw c.row_count.ensures.count at c.if-r-row_count.false)) }
+returns-else-r-row_count c = record {
+  test = le-ltb _ _ c.if-r-row_count.false ∙ sym (eq-out _ _ _ _ (rw c.row_count.ensures.count at c.if-r-row_count.false));
+}

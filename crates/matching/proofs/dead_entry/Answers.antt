@@ -1,31 +1,50 @@
--- The goals that search leaves open. Assumes nothing.
-use mathlib.Core.Path.{◌∙◌, sym}
-use native.Mathlib.Nat.{not-suc-le-zero}
+-- The first place of such a class is the search `first`. Assumes nothing.
+use Prim.Native.Nat.{ℕ, suc, ◌+◌, ◌≤◌}
+use mathlib.Core.Path.{◌≡◌, refl, sym, ap, ◌∙◌}
+use mathlib.Core.Bool.{Bool, true, false, cond}
+use mathlib.Core.List.{List}
 use native.Mathlib.Omega.{arith}
-use borrow.Author.Count.{below_more}
-use lib.ListN.{get_or}
-use Rattle.lists.proofs.First.{first-at, first_past}
+use borrow.Author.Tests.{tests, ltb-false}
+use lib.Dec.{ltb}
+use lib.ListN.{length, get_or}
+use Rattle.std.proofs.Common.{rules}
+use Rattle.std.specs.declared.option.Option.{Option}
+use Rattle.std.specs.declared.option.Option.TheVariants.{Some, None}
+use Rattle.std.specs.Option.{unwrap_or}
+use Rattle.std.specs.List.{position_or_len}
+use Rattle.std.proofs.lemmas.Iterator.{YieldsList-from_slice}
+use Rattle.std.proofs.lemmas.Iterator.Search.{position_from_yields_List}
+use Rattle.std.proofs.lemmas.List.Recursion.{is_position_or_len}
+use Rattle.lists.specs.First.{first}
+use Rattle.lists.proofs.First.{first-le}
 use Rattle.rows.specs.Tags.{either}
-use borrow.Author.Rules.{rules}
 use Rattle.matching.proofs.dead_entry.Goals as goal
 
-pub loop-i-init : goal.loop-i-init
-loop-i-init c = (search rules, λ j h. absurd (not-suc-le-zero h))
+one-more : (n : ℕ) → 1 + n ≡ suc n
+one-more n = omega arith
 
-pub returns-then-dead_class : goal.returns-then-dead_class
-returns-then-dead_class c = record {
-  variable =
-      let s = c.args in
-      sym (first-at (λ j. either (get_or s.cls.now j 0) 2 3) _ _ c.loop-i-test.true
-      (sym c.dead_class.ensures.test ∙ c.if-dead_class.true) c.loop-i.invariant.1);
-}
+-- the first place in a list that passes a test
+first-place : (test : ℕ → Bool) (xs : List ℕ) → first (λ j. test (get_or xs j 0)) (length xs) ≡ position_or_len test xs
+unfolding first
+first-place test =
+    is_position_or_len (λ xs. first (λ j. test (get_or xs j 0)) (length xs)) test refl
+    (λ x xs. ap (λ (n : ℕ). cond (test x) 0 n) (sym (one-more (first (λ j. test (get_or xs j 0)) (length xs)))))
 
-pub loop-i-preserved : goal.loop-i-preserved
-loop-i-preserved c = (omega arith, below_more _ _ c.loop-i.invariant.1 (sym c.dead_class.ensures.test ∙ c.if-dead_class.false))
+place-or : (p n : ℕ) → p ≤ n → unwrap_or (cond (ltb p n) (Some p) None) n ≡ p
+place-or p n h = go (ltb p n) refl
+  where
+    go : (b : Bool) → ltb p n ≡ b → unwrap_or (cond b (Some p) None) n ≡ p
+    go true e = refl
+    go false e = omega (arith, ltb-false p n e)
 
 pub returns : goal.returns
 returns c = record {
   variable =
-      let s = c.args in
-      sym (first_past (λ j. either (get_or s.cls.now j 0) 2 3) _ _ c.loop-i.invariant.0 c.loop-i-test.false c.loop-i.invariant.1);
+      let classes = c.args.cls.now in
+      let test = λ (x : ℕ). either x 2 3 in
+      let place = first-place test classes in
+      let at = position_from_yields_List test c.position-dead.new.self _ c.position-dead.result c.position-dead.ensures.ran
+      (YieldsList-from_slice classes cc) (λ x b q k. search (rules, tests)) in
+      let bound = first-le (λ j. test (get_or classes j 0)) (length classes) in
+      c.unwrap_or.ensures ∙ ap (λ (o : Option ℕ). unwrap_or o (length classes)) at ∙ rw (sym place) (place-or _ _ bound);
 }
