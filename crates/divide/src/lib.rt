@@ -7,13 +7,17 @@ ghost use Rattle.divide.specs.TwosComplement.{to_int, of_int, overflow};
 
 use bv::BitVec;
 
-// By 0: all ones.
+// By 0: all ones. By hand: with `checked_div` a row of it takes ten instructions more, and other rows of two operands three.
 pub fn bv_udiv(a: BitVec, b: BitVec) -> BitVec
     requires { a.width ≡ b.width }
     ensures value { result.number ≡ bvudiv a.width a.number b.number }
     ensures width { result.width ≡ a.width }
 {
-    let number = a.number.checked_div(b.number).unwrap_or(bv::ones(a.width));
+    let number = if b.number == 0 {
+        bv::ones(a.width)
+    } else {
+        a.number / b.number
+    };
     BitVec {
         width: a.width,
         number,
