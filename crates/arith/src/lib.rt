@@ -68,15 +68,11 @@ pub fn bv_concat(a: BitVec, b: BitVec) -> BitVec
     }
 }
 
-pub fn bv_zero_extend(n: u64, a: BitVec) -> BitVec
-    requires { a.width + n ≤ 64 }
-    ensures value { result.number ≡ zero-extend a.width a.number }
-    ensures width { result.width ≡ a.width + n }
+// The number stays as it is, whatever is added.
+pub fn bv_zero_extend(a: BitVec) -> u64
+    ensures value { result ≡ zero-extend a.width a.number }
 {
-    BitVec {
-        width: a.width + n,
-        number: a.number,
-    }
+    a.number
 }
 
 // Copies of the sign are the ones of width w + n above those of width w; w + n may be 64 and n may be 0.

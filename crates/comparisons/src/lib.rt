@@ -7,7 +7,6 @@ ghost use Rattle.bv.specs.Bv.{by_signs, bvult, bvule, bvugt, bvuge, bvslt, bvsle
 use bv::BitVec;
 
 pub fn bv_equal(a: BitVec, b: BitVec) -> BitVec
-    requires { a.width ≡ b.width }
     ensures value { result.number ≡ equal a.number b.number }
     ensures width { result.width ≡ 1 }
 {
@@ -15,7 +14,6 @@ pub fn bv_equal(a: BitVec, b: BitVec) -> BitVec
 }
 
 pub fn bv_distinct(a: BitVec, b: BitVec) -> BitVec
-    requires { a.width ≡ b.width }
     ensures value { result.number ≡ distinct a.number b.number }
     ensures width { result.width ≡ 1 }
 {
@@ -23,7 +21,6 @@ pub fn bv_distinct(a: BitVec, b: BitVec) -> BitVec
 }
 
 pub fn bv_ult(a: BitVec, b: BitVec) -> BitVec
-    requires { a.width ≡ b.width }
     ensures value { result.number ≡ bvult a.number b.number }
     ensures width { result.width ≡ 1 }
 {
@@ -31,7 +28,6 @@ pub fn bv_ult(a: BitVec, b: BitVec) -> BitVec
 }
 
 pub fn bv_ule(a: BitVec, b: BitVec) -> BitVec
-    requires { a.width ≡ b.width }
     ensures value { result.number ≡ bvule a.number b.number }
     ensures width { result.width ≡ 1 }
 {
@@ -39,7 +35,6 @@ pub fn bv_ule(a: BitVec, b: BitVec) -> BitVec
 }
 
 pub fn bv_ugt(a: BitVec, b: BitVec) -> BitVec
-    requires { a.width ≡ b.width }
     ensures value { result.number ≡ bvugt a.number b.number }
     ensures width { result.width ≡ 1 }
 {
@@ -47,7 +42,6 @@ pub fn bv_ugt(a: BitVec, b: BitVec) -> BitVec
 }
 
 pub fn bv_uge(a: BitVec, b: BitVec) -> BitVec
-    requires { a.width ≡ b.width }
     ensures value { result.number ≡ bvuge a.number b.number }
     ensures width { result.width ≡ 1 }
 {

@@ -1,7 +1,7 @@
 // Division and remainder of bit vectors, unsigned and signed.
 #![tactic(auto)]
 
-ghost use Rattle.std.specs.Prelude.{◌≡◌, ◌<◌, ◌≤◌};
+ghost use Rattle.std.specs.Prelude.{◌≡◌, ◌<◌, ◌≤◌, ◌^◌};
 ghost use Rattle.bv.specs.Bv.{bvudiv, bvurem, bvsdiv, bvsrem};
 ghost use Rattle.divide.specs.TwosComplement.{to_int, of_int, overflow};
 
@@ -48,26 +48,23 @@ pub fn signed(a: BitVec) -> i64
     }
 }
 
-// A signed number modulo 2 ^ width.
-pub fn back(width: u64, z: i64) -> BitVec
-    requires { (0 < width) × (width ≤ 64) }
-    ensures word { result.number ≡ of_int width z }
-    ensures width { result.width ≡ width }
+// A signed number modulo 2 ^ w.
+pub fn back(w: u64, z: i64) -> u64
+    requires { w ≤ 64 }
+    ensures word { result ≡ of_int w z }
+    ensures fits { result < 2 ^ w }
 {
     if z < 0 {
-        return BitVec {
-            width,
-            number: bv::ones(width) - bv::low(width, (-1 - z) as u64),
-        };
+        return bv::ones(w) - bv::low(w, (-1 - z) as u64);
     }
-    BitVec::nat2bv(width, z as u64)
+    bv::low(w, z as u64)
 }
 
 // The least i64 by minus one, whose quotient is no i64.
-pub fn overflows(a: BitVec, b: BitVec) -> bool
-    ensures test { result ≡ overflow a.width a.number b.number }
+pub fn overflows(w: u64, a: u64, b: u64) -> bool
+    ensures test { result ≡ overflow w a b }
 {
-    a.width == 64 && a.number == 0x8000_0000_0000_0000 && b.number == 0xffff_ffff_ffff_ffff
+    w == 64 && a == 0x8000_0000_0000_0000 && b == 0xffff_ffff_ffff_ffff
 }
 
 // Towards 0. By 0: 1 for a negative dividend, else all ones.
@@ -88,10 +85,13 @@ pub fn bv_sdiv(a: BitVec, b: BitVec) -> BitVec
             number: bv::ones(a.width),
         };
     }
-    if overflows(a, b) {
+    if overflows(a.width, a.number, b.number) {
         return a; // 2 ^ 63 again
     }
-    back(a.width, signed(a) / signed(b))
+    BitVec {
+        width: a.width,
+        number: back(a.width, signed(a) / signed(b)),
+    }
 }
 
 // The dividend's sign. By 0: the dividend.
@@ -103,11 +103,14 @@ pub fn bv_srem(a: BitVec, b: BitVec) -> BitVec
     if b.number == 0 {
         return a;
     }
-    if overflows(a, b) {
+    if overflows(a.width, a.number, b.number) {
         return BitVec {
             width: a.width,
             number: 0,
         };
     }
-    back(a.width, signed(a) % signed(b))
+    BitVec {
+        width: a.width,
+        number: back(a.width, signed(a) % signed(b)),
+    }
 }

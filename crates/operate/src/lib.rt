@@ -29,7 +29,7 @@ pub fn extend_value(t: u64, n: u64, a: BitVec) -> u64
     ensures value { result ≡ op_number t (n ∷ []) (val a.width a.number ∷ []) }
 {
     match t {
-        tag::ZERO_EXT => arith::bv_zero_extend(n, a).number,
+        tag::ZERO_EXT => arith::bv_zero_extend(a),
         _ => arith::bv_sign_extend(n, a).number,
     }
 }
