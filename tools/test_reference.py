@@ -45,12 +45,12 @@ def capitals(name):
 
 def defined_answers():
     """Names by number, as crates/answers defines them, of the answers that some code gives."""
-    found = re.findall(r"(?m)^words_of \(?(\w+).*= words (\d+) ", content(
-        "crates", "answers", "specs", "Answer.antt"))
+    found = re.findall(r"(?m)^words_of_refusal \(?(\w+).*= words (\d+) ", content(
+        "crates", "answers", "specs", "Refusal.antt"))
     code = "".join(content(path) for path in glob.glob(os.path.join(TOP, "crates", "*", "src", "*.rt"))
                    if os.sep + "answers" + os.sep not in path)
-    given = set(re.findall(r"Answer::(\w+)", code))
-    return {int(number): name for name, number in found if name in given}
+    given = set(re.findall(r"Refusal::(\w+)", code))
+    return {0: "Accepted"} | {int(number): name for name, number in found if name in given}
 
 
 class Tags(unittest.TestCase):

@@ -1,7 +1,7 @@
 // Sums, products and parts of bit vectors of width 1 to 64, as words.
 #![tactic(auto)]
 
-ghost use Rattle.std.specs.Prelude.{◌≡◌, ◌+◌, ◌-◌, ◌^◌, ◌<◌, ◌≤◌, nat_lt};
+ghost use Rattle.std.specs.Prelude.{◌≡◌, ◌+◌, ◌-◌, ◌*◌, ◌^◌, ◌<◌, ◌≤◌, nat_lt};
 ghost use Rattle.bv.specs.Bv.{bvneg, bvadd, bvsub, bvmul, concat, extract, zero-extend, sign-extend};
 
 use bv::BitVec;
@@ -56,16 +56,12 @@ pub fn bv_extract(i: u64, j: u64, a: u64) -> u64
     bv::low(i - j + 1, a >> j)
 }
 
-// The first operand high.
-pub fn bv_concat(a: BitVec, b: BitVec) -> BitVec
-    requires { a.width + b.width ≤ 64 }
-    ensures value { result.number ≡ concat b.width a.number b.number }
-    ensures width { result.width ≡ a.width + b.width }
+// The first operand high (`concat-word` bounds the whole by the widths).
+pub fn bv_concat(a: BitVec, b: BitVec) -> u64
+    requires { (b.width < 64) × (a.number * 2 ^ b.width + b.number < 2 ^ 64) }
+    ensures value { result ≡ concat b.width a.number b.number }
 {
-    BitVec {
-        width: a.width + b.width,
-        number: (a.number << b.width) + b.number,
-    }
+    (a.number << b.width) + b.number
 }
 
 // The number stays as it is, whatever is added.
