@@ -1,5 +1,4 @@
 -- Each return is a path through the definition's tests. Assumes nothing.
-use mathlib.Core.Path.{sym, ◌∙◌}
 use borrow.Author.Tests.{lt-ltb, le-ltb}
 use Rattle.refusals.proofs.refusal.Goals as goal
 
