@@ -65,7 +65,7 @@ pub fn is_ragged(graph: Graph, g: &[u64]) -> bool
     }
 }
 
-// Row i as its five words. An arm for each graph: with the place and the last word chosen first, a pass takes 2 % more instructions.
+// Row i as its five words. An arm for each graph: with the place and the last word chosen first, a pass takes up to 2 % more instructions.
 pub fn row(graph: Graph, g: &[u64], i: usize) -> [u64; 5]
     requires { i < row_count graph g.now }
     ensures row { result ≡ row_at graph g.now i }
