@@ -18,8 +18,7 @@ fn ante_ok(target: &[u64], cargs: &[u64], sp: usize, sq: usize, k: usize, a: u64
 {
     let n = rows::row_count(Graph::Target, target) as u64;
     let mut cur = a;
-    let mut l = k - 1;
-    while 0 < l {
+    for l in (1..k).rev() {
         if n <= cur {
             return false;
         }
@@ -31,7 +30,6 @@ fn ante_ok(target: &[u64], cargs: &[u64], sp: usize, sq: usize, k: usize, a: u64
             return false;
         }
         cur = d[1];
-        l -= 1;
     }
     images::is_eq(target, cargs[sp], cargs[sq], cur)
 }

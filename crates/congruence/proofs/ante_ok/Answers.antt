@@ -1,6 +1,6 @@
 -- The goals that search leaves open. Assumes nothing.
-use Prim.Native.Nat.{◌<◌}
-use mathlib.Core.Path.{◌≡◌, refl, ◌∙◌, sym}
+use Prim.Native.Nat.{◌<◌, ◌-◌}
+use mathlib.Core.Path.{◌≡◌, ◌∙◌, sym}
 use mathlib.Core.Bool.{true}
 use native.Mathlib.Nat.{add-zero}
 use native.Mathlib.Omega.{arith}
@@ -21,12 +21,9 @@ inside c = rw c.row_count-n.ensures.count at c.if-n-cur.false
 is-and : (c : Else-d-ne-BOOL_AND) → eqb (tag_at c.args.target.now c.loop-l.cur) 30 ≡ true
 is-and c = eq-eqb _ _ (rw c.row-d.ensures.row at c.if-d-ne-BOOL_AND.false)
 
-pub loop-l-init : goal.loop-l-init
-loop-l-init c = (omega arith, refl)
-
 pub returns-then-n-cur : goal.returns-then-n-cur
 returns-then-n-cur c = record {
-  test = sym (c.loop-l.invariant.1 ∙ all-out _ _ _ c.loop-l.l c.loop-l.cur (rw c.row_count-n.ensures.count at c.if-n-cur.true));
+  test = sym (c.loop-l.invariant.1 ∙ all-out _ _ _ (c.loop-l.l - 1) c.loop-l.cur (rw c.row_count-n.ensures.count at c.if-n-cur.true));
 }
 
 pub returns-then-d-ne-BOOL_AND : goal.returns-then-d-ne-BOOL_AND
@@ -35,7 +32,7 @@ returns-then-d-ne-BOOL_AND c = record {
       let at = goal.at.returns-then-d-ne-BOOL_AND c in
       sym
       (c.loop-l.invariant.1
-      ∙ all-tag _ _ _ c.loop-l.l c.loop-l.cur c.loop-l-test.true (inside at.Else-n-cur)
+      ∙ all-tag _ _ _ (c.loop-l.l - 1) c.loop-l.cur (omega arith) (inside at.Else-n-cur)
       (ne_eqb _ _ (rw c.row-d.ensures.row at c.if-d-ne-BOOL_AND.true)));
 }
 
@@ -45,7 +42,7 @@ returns-then-not-is_eq c = record {
       let at = goal.at.returns-then-not-is_eq c in
       sym
       (c.loop-l.invariant.1
-      ∙ all-last _ _ _ c.loop-l.l c.loop-l.cur c.loop-l-test.true (inside at.Else-n-cur) (is-and at.Else-d-ne-BOOL_AND)
+      ∙ all-last _ _ _ (c.loop-l.l - 1) c.loop-l.cur (omega arith) (inside at.Else-n-cur) (is-and at.Else-d-ne-BOOL_AND)
       (rw c.row-d.ensures.row at (sym c.is_eq.ensures.test ∙ c.if-not-is_eq.true)));
 }
 
@@ -54,7 +51,7 @@ loop-l-preserved c =
     let at = goal.at.loop-l-preserved c in (
       omega arith,
       c.loop-l.invariant.1
-          ∙ all_rest _ _ _ c.loop-l.l c.loop-l.cur c.loop-l-test.true (inside at.Else-n-cur) (is-and at.Else-d-ne-BOOL_AND)
+          ∙ all_rest _ _ _ (c.loop-l.l - 1) c.loop-l.cur (omega arith) (inside at.Else-n-cur) (is-and at.Else-d-ne-BOOL_AND)
           (rw c.row-d.ensures.row at (sym c.is_eq.ensures.test ∙ c.if-not-is_eq.false))
           ∙ rw c.row-d.ensures.row,
     )
@@ -62,6 +59,6 @@ loop-l-preserved c =
 pub returns : goal.returns
 returns c = record {
   test =
-      c.is_eq-2.ensures.test ∙ sym (c.loop-l.invariant.1 ∙ all_one _ _ _ c.loop-l.l c.loop-l.cur c.loop-l-test.false
+      c.is_eq-2.ensures.test ∙ sym (c.loop-l.invariant.1 ∙ all_one _ _ _ (c.loop-l.l - 1) c.loop-l.cur (omega arith)
       ∙ simp add-zero);
 }

@@ -1,4 +1,4 @@
--- Invariant: the nest that is left, from row cur with l + 1 equalities, says what the whole says. Assumes nothing.
+-- Invariant: the nest that is left, from row cur with l equalities, says what the whole says. Assumes nothing.
 use Prim.Native.Nat.{◌<◌, ◌-◌, ◌+◌}
 use mathlib.Core.Path.{◌≡◌}
 use lib.ListN.{get_or}
@@ -7,8 +7,5 @@ use Rattle.congruence.proofs.ante_ok.Given as goal
 
 abbrev pub invariant-loop-l : goal.invariant-loop-l
 invariant-loop-l l =
-    (l.l < l.k) × (all_equal l.target (λ i. get_or l.cargs (l.sp + i) 0) (λ i. get_or l.cargs (l.sq + i) 0) (l.k - 1) l.a
-    ≡ all_equal l.target (λ i. get_or l.cargs (l.sp + i) 0) (λ i. get_or l.cargs (l.sq + i) 0) l.l l.cur)
-
-abbrev pub decreases-loop-l : goal.decreases-loop-l
-decreases-loop-l l = l.l
+    (0 < l.l) × (all_equal l.target (λ i. get_or l.cargs (l.sp + i) 0) (λ i. get_or l.cargs (l.sq + i) 0) (l.k - 1) l.a
+    ≡ all_equal l.target (λ i. get_or l.cargs (l.sp + i) 0) (λ i. get_or l.cargs (l.sq + i) 0) (l.l - 1) l.cur)
