@@ -1,12 +1,13 @@
 -- Laws of an entry: its tests in order, what a good entry says, where its offset lies. Assumes nothing.
-use Prim.Native.Nat.{ℕ, suc, ◌+◌, ◌*◌, ◌<◌, ◌≤◌}
+use Prim.Native.Nat.{ℕ, suc, min, ◌+◌, ◌*◌, ◌/◌, ◌%◌, ◌<◌, ◌≤◌}
 use mathlib.Core.Path.{◌≡◌, refl, ◌∙◌, sym}
-use mathlib.Core.Bool.{Bool, true, false, not}
+use mathlib.Core.Bool.{true, false, not}
 use mathlib.Core.List.{List}
-use native.Mathlib.Nat.{suc-mul, le-mul_of_pos_right, le-div_iff_mul-le, div-lt_iff_lt-mul, le_of_suc-le-suc}
+use native.Mathlib.Nat.{suc-mul, mul-le-mul_right, le-mul_of_pos_right, le-div_iff_mul-le, div-lt_iff_lt-mul, le_of_suc-le-suc}
 use native.Mathlib.Omega.{arith}
 use borrow.Author.Tests.{le-leb, lt-leb, leb-true, ltb-true, not-false}
 use lib.ListN.{length, get_or}
+use Rattle.std.proofs.lemmas.Grind.{div_ceil_times}
 use Rattle.lists.specs.Tests.{all}
 use Rattle.lists.proofs.Tests.{all_true}
 use Rattle.rows.specs.declared.Graph.TheVariants.{Target}
@@ -34,6 +35,21 @@ module _ (w : ℕ) (pos : 0 < w) (table : List ℕ) (off k : ℕ) (at : off ≡ 
 
   pub past : length table ≤ off → entry_count w table ≤ k
   past h = le_of_suc-le-suc ((div-lt_iff_lt-mul pos).1 (rw (sym next) (omega arith)))
+
+-- the entries of a table of n words, a cut one with them, are those whose offsets lie in it
+module _ (n w k : ℕ) (pos : 0 < w) where
+  pub in-table : k < n / w + min 1 (n % w) → k * w < n
+  in-table h =
+      let t = div_ceil_times n w pos in
+      let m : suc k * w ≤ (n / w + min 1 (n % w)) * w = mul-le-mul_right w h in
+      let e : suc k * w ≡ k * w + w = suc-mul k w in
+      omega (arith, t.1, m, e)
+
+  pub past-table : n / w + min 1 (n % w) ≤ k → n ≤ k * w
+  past-table h =
+      let t = div_ceil_times n w pos in
+      let m : (n / w + min 1 (n % w)) * w ≤ k * w = mul-le-mul_right w h in
+      omega (arith, t.0, m)
 
 -- either table's tests by the parts that differ
 good-is : (which : Table) (table target ws cls : List ℕ) (k : ℕ)

@@ -16,6 +16,7 @@ fn read_is(reads: &[u64], off: usize, array: u64, index: u64) -> bool
 }
 
 // In a table of SIZE words an entry: one before k has the key that `is` asks for at an offset. Entry k has it, so the search needs no bound.
+// By hand: a range would test its end at each step.
 fn found_before<const SIZE: usize, F: Fn(usize) -> bool>(k: usize, is: F) -> bool
     requires size { (0 < SIZE) × (k * SIZE + SIZE < 2 ^ 64) }
     requires callable { (l : ℕ) → l ≤ k → F.pre is (l * SIZE) }

@@ -1,7 +1,7 @@
 -- 15 and 18 on a book's lists test by test, and either check on eleven lists that are a book's. Assumes nothing.
 use Prim.Native.Nat.{ℕ, ◌<◌, ◌≤◌}
-use mathlib.Core.Path.{◌≡◌, ap, sym, ◌∙◌}
-use mathlib.Core.Bool.{Bool, true, false}
+use mathlib.Core.Path.{◌≡◌, sym}
+use mathlib.Core.Bool.{true, false}
 use mathlib.Core.List.{List}
 use borrow.Author.Tests.{lt-ltb, le-ltb}
 use lib.Dec.{ltb}
@@ -10,9 +10,8 @@ use Rattle.sorts.specs.Sorts.{Edition}
 use Rattle.answers.specs.Answer.{Answer}
 use Rattle.answers.specs.Answer.{Accepted, WorkShort}
 use Rattle.answers.specs.Answer.{is_accepted, and_then}
-use Rattle.answers.specs.Result.{Result}
-use Rattle.lowering.specs.Lowering.{Lowering, lowering_in}
-use Rattle.lowering.specs.Check.{refuse, first_refusal, count_answers, check_by}
+use Rattle.lowering.specs.Lowering.{lowering_in}
+use Rattle.lowering.specs.Check.{refuse, first_refusal, count_answers}
 use Rattle.book.specs.Book.{body}
 use Rattle.bodies.specs.Words.{list_of}
 use Rattle.loaded.specs.Held.{edition_of, held, book_words}

@@ -53,6 +53,7 @@ pub fn sort_answer(sorts: Option<&[u64]>) -> Answer
 }
 
 // The first of n entries whose array is not below this one, or n: a search by halves.
+// By hand: std has no `as_chunks`, which would show words as entries of three for its `partition_point`.
 fn lower_bound(table: &[u64], array: u64, n: usize) -> usize
     requires n_in_bounds { n * 3 ≤ length table.now }
     requires by_index { (j k : ℕ) → j < k → k < n → array_at table.now j < array_at table.now k }

@@ -31,20 +31,17 @@ fn table_entries(
     ensures classes { cls.new ≡ table_classes w class table.now cls.old result }
     ensures offsets { ent.new ≡ table_offsets w table.now ent.old result }
 {
-    let m = table.len();
-    let mut off = 0;
-    let mut k = 0;
-    while off < m {
+    let count = table.len().div_ceil(w);
+    for k in 0..count {
+        let off = k * w;
         if !entries::entry_good(which, w, table, target, ws, cls, off, k) {
             return k as u64;
         }
         let v = table[off] as usize;
         cls[v] = class;
         ent[v] = off as u64;
-        off += w;
-        k += 1;
     }
-    k as u64
+    count as u64
 }
 
 // The first bad read entry by the sorts of an edition, or the number of entries; the variables of those before it get class 2 and their entry's

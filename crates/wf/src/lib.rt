@@ -87,7 +87,7 @@ fn part_end(graph: Graph, g: &[u64], from: usize, array: u64) -> usize
 }
 
 // The pass over all rows of a second edition, in parts that read one array: a sort is looked up once a part, and the loop over its rows is that of a
-// first edition.
+// first edition. By hand: the row goes on by parts of unequal length.
 fn parts_wf(
     graph: Graph,
     g: &[u64],

@@ -5,7 +5,6 @@ use native.Mathlib.Nat.{add-zero, sub-zero}
 use native.Mathlib.Omega.{arith}
 use Rattle.lowering.specs.Asked.{lowering_of}
 use Rattle.lowering.specs.declared.Walk.{Walk}
-use Rattle.lowering.specs.Lowering.{source_graph}
 use Rattle.lowering.specs.Matching.{walk}
 use Rattle.chains.specs.Step.{onward}
 use Rattle.chains.proofs.Walk.{along, walk_end, walk_step, onward-stays}

@@ -1,8 +1,7 @@
 -- Invariant: after l of k pairs, the walk from the current row along the rest is the whole walk. Assumes nothing.
-use Prim.Native.Nat.{◌≤◌, ◌+◌, ◌*◌, ◌-◌}
+use Prim.Native.Nat.{◌+◌, ◌*◌, ◌-◌}
 use mathlib.Core.Path.{◌≡◌}
 use Rattle.lowering.specs.Asked.{lowering_of}
-use Rattle.lowering.specs.Lowering.{source_graph}
 use Rattle.lowering.specs.Matching.{walk}
 use Rattle.chains.proofs.chain_walk.Given as goal
 

@@ -5,7 +5,7 @@ use mathlib.Core.List.{[]}
 use native.Mathlib.Omega.{arith}
 use lib.ListN.{length}
 use lib.Seq.{length-take-le}
-use Rattle.sorts.specs.Sorts.{edition, plain}
+use Rattle.sorts.specs.Sorts.{plain}
 use Rattle.std.proofs.lemmas.Result.{err_from_is_err_and}
 use Rattle.answers.specs.Answer.{is_accepted}
 use Rattle.rows.specs.declared.Graph.TheVariants.{Source, Target}

@@ -11,7 +11,7 @@ use Rattle.rows.specs.declared.Graph.TheVariants.{Source, Target}
 use Rattle.rows.specs.Row.{row_count}
 use Rattle.encoding.specs.Encoding.{bad_row, bad_bit}
 use Rattle.lowering.specs.Asked.{lowering_of}
-use Rattle.lowering.specs.Lowering.{SourceGraph, TargetGraph, source_graph, target_graph}
+use Rattle.lowering.specs.Lowering.{SourceGraph, TargetGraph, source_graph}
 use Rattle.forms.proofs.Form.{bad-row-le, bad-source, bad-target, bit-source, bit-target, unsorted, ill-source, ill-target, graphs-good}
 use Rattle.forms.proofs.graph_answer.Goals as goal
 use Rattle.forms.proofs.graph_answer.Goals.{Start, Else-row0-row_count, Else-row1-row_count, Else-bit0-source, Else-bit1-target, In_ok-sort}

@@ -15,7 +15,7 @@ use Rattle.rows.specs.Row.{row_count}
 use Rattle.wf.proofs.Stop.{stop-good}
 use Rattle.wf.specs.Pass.{stop_row}
 use Rattle.lowering.specs.Asked.{lowering_of}
-use Rattle.lowering.specs.Lowering.{SourceGraph, TargetGraph, source_graph, target_graph}
+use Rattle.lowering.specs.Lowering.{SourceGraph, TargetGraph}
 use Rattle.lowering.specs.Check.{first_refusal, graph_answers, source_ill, target_ill}
 use Rattle.forms.proofs.Form.{stop_le, graphs-stop, source-settles, sort-settles, table-good, no-stop-source, no-stop-target, widths-all}
 use Rattle.forms.proofs.graphs.Goals as goal

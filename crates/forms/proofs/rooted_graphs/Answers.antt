@@ -9,7 +9,7 @@ use Rattle.lists.proofs.Choice.{no_way}
 use Rattle.sorts.specs.Sorts.{Edition, edition_given, plain, sorts_of}
 use Rattle.rows.specs.declared.Graph.TheVariants.{Source, Target}
 use Rattle.lowering.specs.Asked.{lowering_of}
-use Rattle.lowering.specs.Lowering.{SourceGraph, TargetGraph, source_graph, target_graph}
+use Rattle.lowering.specs.Lowering.{SourceGraph, TargetGraph}
 use Rattle.forms.proofs.Form.{widths-front, graphs-refused, roots-asked}
 use Rattle.forms.proofs.rooted_graphs.Goals as goal
 use Rattle.forms.proofs.rooted_graphs.Goals.{Start}

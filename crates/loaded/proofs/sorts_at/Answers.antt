@@ -1,8 +1,6 @@
 -- Section 12 of a second edition; of a first any list serves. Assumes nothing.
-use mathlib.Core.Path.{◌≡◌, sym, ap, ◌∙◌}
+use mathlib.Core.Path.{◌≡◌, sym, ◌∙◌}
 use mathlib.Core.Bool.{true, false}
-use mathlib.Core.List.{List}
-use Prim.Native.Nat.{ℕ}
 use native.Mathlib.Omega.{arith}
 use Rattle.contents.specs.Contents.{is_second}
 use Rattle.contents.proofs.Editions.{sections-second}

@@ -4,7 +4,7 @@ use mathlib.Core.Path.{◌≡◌, sym, ap, ◌∙◌}
 use mathlib.Core.Bool.{true}
 use lib.ListN.{length, length-replicate}
 use mathlib.Core.List.{[]}
-use Rattle.sorts.specs.Sorts.{edition, plain}
+use Rattle.sorts.specs.Sorts.{plain}
 use Rattle.images.proofs.Constants.{bits-within}
 use Rattle.images.proofs.Equality.{eqs-even}
 use Rattle.lists.proofs.Choice.{no_way}
@@ -13,7 +13,7 @@ use Rattle.rows.specs.Row.{row_count}
 use Rattle.std.proofs.lemmas.Result.{err_from_is_err_and}
 use Rattle.answers.specs.Answer.{is_accepted}
 use Rattle.lowering.specs.Asked.{lowering_of}
-use Rattle.lowering.specs.Lowering.{Lowering, lowering_in}
+use Rattle.lowering.specs.Lowering.{Lowering}
 use Rattle.lowered.proofs.MatchLaws.{map-3, tables-done, rows-done, dead-done, roots-done, passed-tables, reads-inside, calls-inside}
 use Rattle.wf.specs.Widths.{widths}
 use Rattle.lowered.proofs.matches.Goals as goal

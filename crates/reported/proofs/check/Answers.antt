@@ -1,11 +1,7 @@
 -- Check's outcome in words; its acceptance is sound, since the target is a slice. Assumes nothing.
-use Prim.Native.Nat.{◌≤◌}
 use mathlib.Core.Path.{◌≡◌, ap}
-use native.Mathlib.Omega.{arith}
-use lib.ListN.{length}
 use Rattle.lowering.specs.Asked.{lowering_of}
 use Rattle.answers.specs.Result.{Result, told_of}
-use Rattle.rows.specs.Row.{MAX}
 use Rattle.lowering.specs.Lowering.{Lowering}
 use Rattle.lowering.specs.Check.{check_by}
 use Rattle.reported.proofs.Sound.{check-means}

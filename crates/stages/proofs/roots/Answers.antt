@@ -1,7 +1,7 @@
 -- The leading roots, those of reads, those of calls, then the end: each return is the law of its refusal over what the calls answered.
 -- Assumes nothing.
 use Rattle.lowering.specs.Asked.{lowering_of}
-use Rattle.lowering.specs.Lowering.{TargetGraph, target_graph, Entries, entries_of}
+use Rattle.lowering.specs.Lowering.{TargetGraph, Entries, entries_of}
 use Rattle.stages.proofs.RootLaws.{lead-12, read-13, call-13, surplus-12, roots-good}
 use Rattle.stages.proofs.roots.Goals as goal
 use Rattle.stages.proofs.roots.Goals.{After-ext_roots_corr-lead}

@@ -1,6 +1,5 @@
 -- Invariant: the pass is at row i. Assumes nothing.
 use Prim.Native.Nat.{◌≤◌, ◌-◌}
-use mathlib.Core.Bool.{true}
 use Rattle.rows.specs.Row.{row_count}
 use Rattle.sorts.specs.Sorts.{second_edition, sorts_of}
 use Rattle.wf.specs.Pass.{Reached}
