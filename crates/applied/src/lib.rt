@@ -12,7 +12,7 @@ ghost use Rattle.applied.specs.Ready.{ArgsWithin};
 use lowering::Asked;
 use rows::Graph;
 
-// The classes of a call variable.
+// The classes of a call variable. Classes stay numbers: the list of them is words that a C program reads.
 fn call_class(c: u64) -> bool
     ensures test { result ≡ either c 3 5 }
 {

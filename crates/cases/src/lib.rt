@@ -91,13 +91,14 @@ pub fn same_answer(words: &[u64], a: Words) -> bool
     ensures equal { (result ≡ true → a ≡ answer words.now) × (a ≡ answer words.now → result ≡ true) }
 {
     let at = answer_at(words);
-    if a.number != word_at(words, at) {
-        return false;
+    let number = word_at(words, at);
+    let place = word_at(words, at + 1);
+    let detail = word_at(words, at + 2);
+    a == Words {
+        number,
+        place,
+        detail,
     }
-    if a.place != word_at(words, at + 1) {
-        return false;
-    }
-    a.detail == word_at(words, at + 2)
 }
 
 // Whether a list is lent list k as it must be after the call.

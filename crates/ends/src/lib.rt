@@ -11,7 +11,7 @@ ghost use Rattle.rows.specs.Tags.{either};
 use lowering::{Asked, Walk};
 use rows::Graph;
 
-// The classes of a read variable.
+// The classes of a read variable. Classes stay numbers: the list of them is words that a C program reads.
 fn read_class(c: u64) -> bool
     ensures test { result ≡ either c 2 4 }
 {

@@ -1,4 +1,5 @@
-// The exports for C and Rust (include/gilfrunt.h): each is the function of its name in the crate gilfrunt.
+// The exports for C and Rust (include/gilfrunt.h): each is the function of its name in the crate gilfrunt. Both stay: C calls these by name, and a
+// program of the gate cannot name a crate that exports.
 #![tactic(auto)]
 
 ghost use Rattle.std.specs.Prelude.{◌≡◌, [], ◌∷◌};

@@ -18,7 +18,7 @@ use answers::{Answer, Refusal};
 use lowering::Asked;
 use rows::{Graph, MAX, tag};
 
-// The first variable whose entry nothing has reached, which is in class 2 or 3, or the number of rows.
+// The first variable whose entry nothing has reached, which is in class 2 or 3 (words that a C program reads), or the number of rows.
 pub fn dead_entry(cls: &[u64]) -> u64
     ensures variable { result ≡ dead_entry cls.now (length cls.now) }
 {

@@ -119,7 +119,7 @@ fn lowering_agrees<'a>(
     )
 }
 
-// Either check of either edition: the bits are lists 1 and 9, the lent lists the last four.
+// Either check of either edition: the bits are lists 1 and 9, the lent lists the last four. The switches are the definition's (CheckAgrees).
 pub fn check_agrees(strict: bool, second: bool, words: &[u64]) -> bool
     requires { length words.now ≤ room }
     ensures agreed { result ≡ true → CheckAgrees strict second words.now }

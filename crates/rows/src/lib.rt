@@ -7,7 +7,7 @@ ghost use Rattle.rows.specs.Node.{node_from, node_of, row_eq};
 
 pub mod tag;
 
-// The largest word: no row has this number, so a row that is mapped here has no image; no width passes it.
+// The largest word: no row has this number, so a row that is mapped here has no image; no width passes it. A word of the map that C gives.
 pub const MAX: u64 = 0xffff_ffff_ffff_ffff;
 
 // Which graph a list of words holds.
@@ -38,6 +38,7 @@ pub enum Node {
     Select(u64, u64, u64, u64),
     // function, width, start, argument count
     Call(u64, u64, u64, u64),
+    // a tag that there is not; a case and not an `Option`, since the definitions of values go by it
     Unknown,
 }
 
@@ -47,6 +48,7 @@ pub fn graph_number(graph: Graph) -> u64
     graph as u64
 }
 
+// An arm for each graph, here and below: divided by a word that is chosen first, a list costs a division.
 pub fn row_count(graph: Graph, g: &[u64]) -> usize
     ensures count { result ≡ row_count graph g.now }
 {

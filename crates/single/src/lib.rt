@@ -32,7 +32,7 @@ fn same_widths(words: &[u64], source: bool, second: bool, bits: &[u8], widths: &
     cases::same_lent(words, 0, widths)
 }
 
-// Widths of a source of either edition or a target: the bits are list 1, the lent list is the last.
+// Widths of a source of either edition or a target: the bits are list 1, the lent list is the last. The switches are the definition's (WidthsAgree).
 pub fn widths_agree(words: &[u64], source: bool, second: bool, lists: u64) -> bool
     requires { (0 < lists) × (length words.now ≤ room) }
     ensures agreed { result ≡ true → WidthsAgree source second lists words.now }

@@ -73,7 +73,7 @@ fn lower_bound(table: &[u64], array: u64, n: usize) -> usize
     low
 }
 
-// What a good table lists for an array, 0 and 0 where it is not listed.
+// What a good table lists for an array, 0 and 0 where it is not listed: the definition's numbers, no width.
 fn listed(table: &[u64], array: u64) -> Sort
     requires { Good (second_edition table.now) }
     ensures sort { (result.index ≡ index_at table.now (entry_of table.now array))

@@ -83,7 +83,7 @@ pub fn call_entries(
     table_entries(Table::Calls(cargs), 4, 3, calls, target, ws, cls, ent)
 }
 
-// How many entries each table has; a cut one counts.
+// How many entries each table has; a cut one counts. Two lines, not one with a const parameter: they have their definitions' names.
 pub fn read_count(reads: &[u64]) -> usize
     ensures count { result ≡ read_count reads.now }
 {

@@ -1,38 +1,32 @@
 -- Number, place and detail, each by its word. Assumes nothing.
-use mathlib.Core.Path.{◌∙◌}
-use mathlib.Core.Bool.{false≢true}
+use mathlib.Core.Path.{◌≡◌, refl, sym, ◌∙◌}
+use mathlib.Core.Bool.{Bool, true, false, ◌&&◌, false≢true}
 use borrow.Author.Tests.{eq-eqb, eqb-true}
 use Rattle.cases.proofs.Case.{number_is, place_is, detail-is, answer-is}
 use Rattle.cases.proofs.same_answer.Goals as goal
 
-pub returns-then-a-word_at : goal.returns-then-a-word_at
-returns-then-a-word_at c = record {
-  equal =
-      let g = c.args in (
-        λ e. absurd (false≢true e),
-        λ e. absurd (c.if-a-word_at.true (number_is g.words.now g.a _ c.answer_at-at.ensures.place.0 _
-            c.word_at.ensures.word e)),
-      );
-}
-
-pub returns-then-a-word_at-2 : goal.returns-then-a-word_at-2
-returns-then-a-word_at-2 c = record {
-  equal =
-      let g = c.args in (
-        λ e. absurd (false≢true e),
-        λ e. absurd (c.if-a-word_at-2.true (place_is g.words.now g.a _
-            c.answer_at-at.ensures.place.0 _ c.word_at-2.ensures.word e)),
-      );
-}
+both : (x y : Bool) → (x && y) ≡ true → (x ≡ true) × (y ≡ true)
+both true y e = (refl, e)
+both false y e = absurd (false≢true e)
 
 pub returns : goal.returns
 returns c = record {
   equal =
       let g = c.args in
       let p = c.answer_at-at.ensures.place.0 in
-      let number = c.if-a-word_at.false ∙ c.word_at.ensures.word in
-      let place = c.if-a-word_at-2.false ∙ c.word_at-2.ensures.word in (
-        λ e. answer-is g.words.now g.a _ p number place (eqb-true _ _ e ∙ c.word_at-3.ensures.word),
-        λ e. eq-eqb _ _ (detail-is g.words.now g.a _ p _ c.word_at-3.ensures.word e),
+      let n = c.word_at-number.ensures.word in
+      let k = c.word_at-place.ensures.word in
+      let d = c.word_at-detail.ensures.word in (
+        λ e.
+            let q = both _ _ (sym c.eq.ensures ∙ e) in
+            let r = both _ _ q.1 in
+            answer-is g.words.now g.a _ p (eqb-true _ _ q.0 ∙ n) (eqb-true _ _ r.0 ∙ k) (eqb-true _ _ r.1 ∙ d),
+        λ e.
+            c.eq.ensures
+            ∙ rw (
+              eq-eqb _ _ (number_is g.words.now g.a _ p _ n e),
+              eq-eqb _ _ (place_is g.words.now g.a _ p _ k e),
+              eq-eqb _ _ (detail-is g.words.now g.a _ p _ d e),
+            ),
       );
 }
