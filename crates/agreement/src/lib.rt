@@ -7,8 +7,8 @@ ghost use Rattle.agreement.specs.Agrees.{BookAgrees, SameSection, SectionAgrees,
 
 use answers::Words;
 
-// Whether the library answers a case as expected. Malformed cases and unknown operations do not agree. The first word names the operation, a number of
-// the fixed list; the switches are the definitions'.
+// Whether the library answers a case as expected. Malformed cases and unknown operations do not agree. The first word names the operation, a number
+// of the fixed list; the switches are the definitions'.
 pub fn agrees(words: &[u64]) -> bool
     requires { length words.now ≤ room }
     ensures agreed { result ≡ true → Agrees words.now }
