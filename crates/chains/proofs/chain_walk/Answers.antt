@@ -37,9 +37,9 @@ loop-l-preserved c =
     let w = along ((lowering_of s.asked.now).source) s.asked.now.map.now s.asked.now.target.rows.now s.j in
     let l = c.loop-l in
     l.invariant ∙ walk_step _ _ _ _ s.k s.s l.l l.row c.loop-l-test.true
-          ∙ ap (λ (z : Walk). onward z (w (s.k - (l.l + 1)) (s.s + 2 * (l.l + 1))))
-          (sym (rw (c.row-q.ensures.row, c.map_at-b.ensures.row) at c.pair_step-step.ensures.step)
-          ∙ c.in-RanOut.is)
+    ∙ ap (λ (z : Walk). onward z (w (s.k - (l.l + 1)) (s.s + 2 * (l.l + 1))))
+    (sym (rw (c.row-q.ensures.row, c.map_at-b.ensures.row) at c.pair_step-step.ensures.step)
+    ∙ c.in-RanOut.is)
 
 pub returns : goal.returns
 returns c = record {

@@ -42,7 +42,7 @@ returns-in_err-a c = record {
       let q = err_from_is_err_and c.from_residual.result c.from_residual.ensures.1 in
       rw (q.1, q.2)
       (count-done s.strict L s.ws0.now s.ws1.now s.cls.now s.ent.now _ (sym c.in_err-a.was
-          ∙ c.count_answer-a.ensures.answer L.source L.target refl refl)
+      ∙ c.count_answer-a.ensures.answer L.source L.target refl refl)
       refl);
 }
 
@@ -159,10 +159,10 @@ returns c = record {
       let l = c.lowered-m in
       let m = c.is_err-2.ensures.negation ∙ ap not c.if-is_err-2.false in
       by-lists _ _ _ _ _ _ _ _ _ _ (widths-cleared (array_sorts L) Source (length s.asked.now.source.bits.now) _
-          (length s.ws0.now) s.asked.now.source.side.now
+      (length s.ws0.now) s.asked.now.source.side.now
       s.asked.now.source.rows.now _ _ _ c.row_count.ensures.count (k.ensures.source_list ok) k.auto.ws0 c.clear_from.ensures.zeros)
       (widths-cleared plain Target (length s.asked.now.target.bits.now) _
-          (length s.ws1.now) [] s.asked.now.target.rows.now _ _ _ c.row_count-n.ensures.count
+      (length s.ws1.now) [] s.asked.now.target.rows.now _ _ _ c.row_count-n.ensures.count
       (k.ensures.target_list ok) k.auto.ws1 c.clear_from-2.ensures.zeros) (l.ensures.class_list m) (l.ensures.entry_list m)
       (accept-done s.strict L s.ws0.now s.ws1.now s.cls.now s.ent.now _ c1 g1 l.ensures.answer m);
 }

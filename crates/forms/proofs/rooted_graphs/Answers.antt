@@ -48,10 +48,10 @@ returns c =
     let ok : is_accepted c.graphs.result ≡ true = ap is_accepted c.in_ok-graphs.was in
     let ws0 =
     widths-front (sorts_of (of start)) Source
-        (length s.asked.now.source.bits.now) _ s.asked.now.source.side.now s.asked.now.source.rows.now _ _ c.row_count-n.ensures.count
+    (length s.asked.now.source.bits.now) _ s.asked.now.source.side.now s.asked.now.source.rows.now _ _ c.row_count-n.ensures.count
     (g.source_list ok) in
     let ws1 = widths-front plain Target (length s.asked.now.target.bits.now) _ [] s.asked.now.target.rows.now _ _ c.row_count-m.ensures.count
-        (g.target_list ok) in
+    (g.target_list ok) in
     record {
       answer =
           roots-asked s.strict (of start) (source start) (target start) s.asked.now.eroots.now s.asked.now.troots.now _ g.answer ok _ _ _

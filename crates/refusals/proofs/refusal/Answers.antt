@@ -26,4 +26,3 @@ returns-then-bit-bits c = record {
         lt-ltb _ _ (rw c.bad_bit-bit.ensures.position at c.if-bit-bits.true),
       );
 }
-

@@ -48,7 +48,7 @@ returns-then-u-troots c = record {
       let at = (goal.at.returns-then-u-troots c).After-ext_roots_corr-lead in
       let s = c.args in
       surplus-12 (tables at)
-          (graph at) s.ws.now s.asked.now.map.now s.asked.now.eroots.now s.asked.now.troots.now _
+      (graph at) s.ws.now s.asked.now.map.now s.asked.now.eroots.now s.asked.now.troots.now _
       c.ext_roots_corr-lead.ensures.position
       c.if-lead-eroots.false _ c.in-Ok.ensures.walk _ c.in-Ok-uf_cong.ensures.walk c.if-u-troots.true;
 }
@@ -59,7 +59,7 @@ returns c = record {
       let at = (goal.at.returns c).After-ext_roots_corr-lead in
       let s = c.args in
       roots-good (tables at)
-          (graph at) s.ws.now s.asked.now.map.now s.asked.now.eroots.now s.asked.now.troots.now _
+      (graph at) s.ws.now s.asked.now.map.now s.asked.now.eroots.now s.asked.now.troots.now _
       c.ext_roots_corr-lead.ensures.position
       c.if-lead-eroots.false _ c.in-Ok.ensures.walk _ c.in-Ok-uf_cong.ensures.walk c.if-u-troots.false;
 }
