@@ -7,36 +7,34 @@ ghost use Rattle.bv.specs.Bv.{bvneg, bvadd, bvsub, bvmul, concat, extract, zero-
 use bv::BitVec;
 
 // ---- sums
-pub fn bv_add(a: BitVec, b: BitVec) -> BitVec
-    requires { a.width ≡ b.width }
-    ensures value { result.number ≡ bvadd a.width a.number b.number }
-    ensures width { result.width ≡ a.width }
+// Sums, differences and products ask less of their words than a bit vector has, and so take words.
+pub fn bv_add(w: u64, a: u64, b: u64) -> u64
+    requires { w ≤ 64 }
+    ensures value { result ≡ bvadd w a b }
 {
-    BitVec::nat2bv(a.width, a.number.wrapping_add(b.number))
+    bv::low(w, a.wrapping_add(b))
 }
 
-pub fn bv_sub(a: BitVec, b: BitVec) -> BitVec
-    requires { a.width ≡ b.width }
-    ensures value { result.number ≡ bvsub a.width a.number b.number }
-    ensures width { result.width ≡ a.width }
+pub fn bv_sub(w: u64, a: u64, b: u64) -> u64
+    requires { (w ≤ 64) × (b < 2 ^ w) }
+    ensures value { result ≡ bvsub w a b }
 {
-    BitVec::nat2bv(a.width, a.number.wrapping_sub(b.number))
+    bv::low(w, a.wrapping_sub(b))
 }
 
-pub fn bv_neg(a: BitVec) -> BitVec
-    ensures value { result.number ≡ bvneg a.width a.number }
-    ensures width { result.width ≡ a.width }
+pub fn bv_neg(w: u64, a: u64) -> u64
+    requires { (w ≤ 64) × (a < 2 ^ w) }
+    ensures value { result ≡ bvneg w a }
 {
-    BitVec::nat2bv(a.width, a.number.wrapping_neg())
+    bv::low(w, a.wrapping_neg())
 }
 
 // ---- products
-pub fn bv_mul(a: BitVec, b: BitVec) -> BitVec
-    requires { a.width ≡ b.width }
-    ensures value { result.number ≡ bvmul a.width a.number b.number }
-    ensures width { result.width ≡ a.width }
+pub fn bv_mul(w: u64, a: u64, b: u64) -> u64
+    requires { w ≤ 64 }
+    ensures value { result ≡ bvmul w a b }
 {
-    BitVec::nat2bv(a.width, a.number.wrapping_mul(b.number))
+    bv::low(w, a.wrapping_mul(b))
 }
 
 // ---- bounds

@@ -1,4 +1,5 @@
-// The operations over numbers and slices; gilfrunt_c exports them for C and Rust (include/gilfrunt.h).
+// The operations over numbers and slices; gilfrunt_c exports them for C and Rust (include/gilfrunt.h). The four checks each build what is asked: a
+// function for it would take the same lists again.
 #![tactic(auto)]
 
 ghost use Rattle.std.specs.Prelude.{◌≡◌, [], ◌∷◌};

@@ -19,7 +19,7 @@ pub fn un_value(t: u64, a: BitVec) -> u64
 {
     match t {
         tag::NOT | tag::BV_NOT => bitwise::bv_not(a).number,
-        _ => arith::bv_neg(a).number,
+        _ => arith::bv_neg(a.width, a.number),
     }
 }
 
@@ -36,36 +36,36 @@ pub fn extend_value(t: u64, n: u64, a: BitVec) -> u64
 
 // ---- two operands
 // Of one width: any tag but Concat's.
-fn even_value(t: u64, a: BitVec, b: BitVec) -> BitVec
+fn even_value(t: u64, a: BitVec, b: BitVec) -> u64
     requires { BinTag t × (t ≡ t_concat → ⊥) × (a.width ≡ b.width) }
-    ensures value { result.number ≡ op_number t [] (val a.width a.number ∷ val b.width b.number ∷ []) }
+    ensures value { result ≡ op_number t [] (val a.width a.number ∷ val b.width b.number ∷ []) }
 {
     match t {
-        tag::ADD => arith::bv_add(a, b),
-        tag::SUB => arith::bv_sub(a, b),
-        tag::MUL => arith::bv_mul(a, b),
-        tag::UDIV => divide::bv_udiv(a, b),
-        tag::UREM => divide::bv_urem(a, b),
-        tag::AND | tag::BOOL_AND => bitwise::bv_and(a, b),
-        tag::OR | tag::BOOL_OR => bitwise::bv_or(a, b),
-        tag::XOR => bitwise::bv_xor(a, b),
-        tag::SHL => bitwise::bv_shl(a, b),
-        tag::LSHR => bitwise::bv_lshr(a, b),
-        tag::ASHR => bitwise::bv_ashr(a, b),
-        tag::ROTR => bitwise::bv_rotr(a, b),
-        tag::EQ => comparisons::bv_equal(a, b),
-        tag::NE => comparisons::bv_distinct(a, b),
-        tag::ULT => comparisons::bv_ult(a, b),
-        tag::ULE => comparisons::bv_ule(a, b),
-        tag::UGT => comparisons::bv_ugt(a, b),
-        tag::UGE => comparisons::bv_uge(a, b),
-        tag::SLT => comparisons::bv_slt(a, b),
-        tag::SLE => comparisons::bv_sle(a, b),
-        tag::SGT => comparisons::bv_sgt(a, b),
-        tag::SGE => comparisons::bv_sge(a, b),
-        tag::ROTL => bitwise::bv_rotl(a, b),
-        tag::SDIV => divide::bv_sdiv(a, b),
-        _ => divide::bv_srem(a, b),
+        tag::ADD => arith::bv_add(a.width, a.number, b.number),
+        tag::SUB => arith::bv_sub(a.width, a.number, b.number),
+        tag::MUL => arith::bv_mul(a.width, a.number, b.number),
+        tag::UDIV => divide::bv_udiv(a, b).number,
+        tag::UREM => divide::bv_urem(a, b).number,
+        tag::AND | tag::BOOL_AND => bitwise::bv_and(a, b).number,
+        tag::OR | tag::BOOL_OR => bitwise::bv_or(a, b).number,
+        tag::XOR => bitwise::bv_xor(a, b).number,
+        tag::SHL => bitwise::bv_shl(a, b).number,
+        tag::LSHR => bitwise::bv_lshr(a, b).number,
+        tag::ASHR => bitwise::bv_ashr(a, b).number,
+        tag::ROTR => bitwise::bv_rotr(a, b).number,
+        tag::EQ => comparisons::bv_equal(a, b).number,
+        tag::NE => comparisons::bv_distinct(a, b).number,
+        tag::ULT => comparisons::bv_ult(a, b).number,
+        tag::ULE => comparisons::bv_ule(a, b).number,
+        tag::UGT => comparisons::bv_ugt(a, b).number,
+        tag::UGE => comparisons::bv_uge(a, b).number,
+        tag::SLT => comparisons::bv_slt(a, b).number,
+        tag::SLE => comparisons::bv_sle(a, b).number,
+        tag::SGT => comparisons::bv_sgt(a, b).number,
+        tag::SGE => comparisons::bv_sge(a, b).number,
+        tag::ROTL => bitwise::bv_rotl(a, b).number,
+        tag::SDIV => divide::bv_sdiv(a, b).number,
+        _ => divide::bv_srem(a, b).number,
     }
 }
 
@@ -77,7 +77,7 @@ pub fn bin_value(t: u64, a: BitVec, b: BitVec) -> u64
     if t == tag::CONCAT {
         return arith::bv_concat(a, b);
     }
-    even_value(t, a, b).number
+    even_value(t, a, b)
 }
 
 // ---- constants

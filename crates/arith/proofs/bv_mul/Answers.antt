@@ -1,7 +1,7 @@
--- A wrapped product of words, kept to the width, is the product at that width. Assumes nothing.
+-- A wrapped product of words, kept to width w, is the product at width w. Assumes nothing.
 use Rattle.std.proofs.Common.{◌∙◌}
 use Rattle.bv.proofs.Word.{mod-under}
 use Rattle.arith.proofs.bv_mul.Goals as goal
 
-pub returns-clause-value : goal.returns-clause-value
-returns-clause-value c = c.nat2bv.ensures.value ∙ mod-under _ _ c.args.a.narrow
+pub returns : goal.returns
+returns c = record { value = c.low.ensures.low ∙ mod-under _ _ c.requires }

@@ -1,7 +1,7 @@
--- A wrapped negative, kept to the width, is the negative at that width. Assumes nothing.
+-- A wrapped negative, kept to width w, is the negative at width w. Assumes nothing.
 use Rattle.std.proofs.Common.{◌∙◌}
 use Rattle.arith.proofs.Sums.{neg-law}
 use Rattle.arith.proofs.bv_neg.Goals as goal
 
-pub returns-clause-value : goal.returns-clause-value
-returns-clause-value c = c.nat2bv.ensures.value ∙ neg-law _ _ _ c.args.a.narrow c.args.a.fits c.wrapping_neg.ensures
+pub returns : goal.returns
+returns c = record { value = c.low.ensures.low ∙ neg-law _ _ _ c.requires.0 c.requires.1 c.wrapping_neg.ensures }

@@ -1,0 +1,7 @@
+-- A wrapped sum of words, kept to width w, is the sum at width w. Assumes nothing.
+use Rattle.std.proofs.Common.{◌∙◌}
+use Rattle.bv.proofs.Word.{mod-under}
+use Rattle.arith.proofs.bv_add.Goals as goal
+
+pub returns : goal.returns
+returns c = record { value = c.low.ensures.low ∙ mod-under _ _ c.requires }
