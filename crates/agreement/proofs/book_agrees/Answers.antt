@@ -19,7 +19,7 @@ returns c = record {
       let s = c.args in
       let book = c.copy_bytes.ensures.copied (c.if-not-copy_bytes.false) ∙ c.given-list.ensures.list in
       let words =
-      c.words_of.ensures.words ∙ ap words_of c.verdict-a.ensures.answer
+      c.from.ensures ∙ ap words_of c.verdict-a.ensures.answer
       ∙ ap (λ (x : List ℕ). words_of (verdict_by s.strict x)) book in
       λ e. (sym c.has_shape.ensures.shape ∙ c.if-not-has_shape.false, sym words ∙ c.same_answer.ensures.equal.0 e);
 }
