@@ -192,13 +192,6 @@ module _ (b old : List ℕ) where
       let d : drop (n + m) ws ≡ drop (n + m) old = rw e (drop-append-add (loaded b i) (drop n old) m ∙ drop-drop m n old) in
       f ∙ rw (a, d, s, length-append) (sym (append_assoc (loaded b i) (list_of b i) (drop (n + m) old)))
 
-  -- what stands after the words is what stood there
-  pub filled-rest : (i : ℕ) (ws : List ℕ) → ws ≡ filled i → ws ≡ loaded b i ++ drop (length (loaded b i)) ws
-  filled-rest i ws e =
-      let r : drop (length (loaded b i)) ws ≡ drop (length (loaded b i)) old =
-      rw e (drop_at (loaded b i) (drop (length (loaded b i)) old) (length (loaded b i)) refl) in
-      e ∙ ap (λ (l : List ℕ). loaded b i ++ l) (sym r)
-
 -- the part of a list where section i + 1's words stand
 pub record Part (b : List ℕ) (i : ℕ) (ws : List ℕ) (from end : ℕ) : Type 0 where
   pub ordered : from ≤ end

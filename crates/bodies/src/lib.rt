@@ -3,8 +3,9 @@
 
 ghost use Rattle.std.specs.Prelude.{◌≡◌, ◌++◌, cond, ◌+◌, ◌-◌, ◌/◌, ◌≤◌, ◌<◌, length, take, drop, replicate};
 ghost use Rattle.contents.specs.Contents.{sections};
-ghost use Rattle.book.specs.Good.{Good};
 ghost use Rattle.bodies.specs.Words.{words_of_bytes, list_of, loaded};
+
+use book::GoodBook;
 
 // The words of some bytes, put at the start of a list.
 fn read_words(bytes: &[u8], out: &mut [u64])
@@ -17,20 +18,20 @@ fn read_words(bytes: &[u8], out: &mut [u64])
 }
 
 // How many words section i + 1 has.
-pub fn word_count(book: &[u8], i: usize) -> usize
-    requires { (i < sections book.now) × Good book.now }
-    ensures count { result ≡ length (list_of book.now i) }
+pub fn word_count(book: GoodBook<'_>, i: usize) -> usize
+    requires { i < sections book.bytes.now }
+    ensures count { result ≡ length (list_of book.entry.bytes.now i) }
 {
     if contents::is_bits(i) {
         return 0;
     }
-    contents::length_of(book, i) as usize / 8
+    contents::length_of(book.bytes, i) as usize / 8
 }
 
 // How many words the first i sections have.
-pub fn offset(book: &[u8], i: usize) -> usize
-    requires { (i ≤ sections book.now) × Good book.now }
-    ensures count { result ≡ length (loaded book.now i) }
+pub fn offset(book: GoodBook<'_>, i: usize) -> usize
+    requires { i ≤ sections book.bytes.now }
+    ensures count { result ≡ length (loaded book.entry.bytes.now i) }
 {
     let mut at = 0;
     for k in 0..i {
@@ -40,11 +41,11 @@ pub fn offset(book: &[u8], i: usize) -> usize
 }
 
 // Section i + 1's words, put in a list after those of the sections before, which end at a place.
-fn load_section(book: &[u8], i: usize, at: usize, words: &mut [u64])
-    requires i_bound { (i < sections book.now) × Good book.now × (at ≡ length (loaded book.now i)) }
-    requires i_in_bounds { length (loaded book.now i) + length (list_of book.now i) ≤ length words.old }
-    ensures list { words.new ≡ take (length (loaded book.now i)) words.old ++ (list_of
-        book.now i ++ drop (length (loaded book.now i) + length (list_of book.now i)) words.old) }
+fn load_section(book: GoodBook<'_>, i: usize, at: usize, words: &mut [u64])
+    requires i_bound { (i < sections book.bytes.now) × (at ≡ length (loaded book.bytes.now i)) }
+    requires i_in_bounds { length (loaded book.bytes.now i) + length (list_of book.bytes.now i) ≤ length words.old }
+    ensures list { words.new ≡ take (length (loaded book.entry.bytes.now i)) words.old ++ (list_of
+        book.entry.bytes.now i ++ drop (length (loaded book.entry.bytes.now i) + length (list_of book.entry.bytes.now i)) words.old) }
 {
     if contents::is_bits(i) {
         return;
@@ -53,24 +54,24 @@ fn load_section(book: &[u8], i: usize, at: usize, words: &mut [u64])
 }
 
 // All words of a book, put at the start of a list.
-pub fn load(book: &[u8], words: &mut [u64])
-    requires good { Good book.now }
-    requires book_in_bounds { length (loaded book.now (sections book.now)) ≤ length words.old }
-    ensures list { words.new ≡ loaded book.now (sections book.now) ++ drop (length (loaded
-        book.now (sections book.now))) words.old }
+pub fn load(book: GoodBook<'_>, words: &mut [u64])
+    requires book_in_bounds { length (loaded book.bytes.now (sections book.bytes.now)) ≤ length words.old }
+    ensures list { words.new ≡ loaded book.entry.bytes.now (sections book.entry.bytes.now) ++ drop (length (loaded
+        book.entry.bytes.now (sections book.entry.bytes.now))) words.old }
 {
     let mut at = 0;
-    for i in 0..book::sections(book) {
+    for i in 0..book::sections(book.bytes) {
         load_section(book, i, at, words);
         at += word_count(book, i);
     }
 }
 
 // Section i + 1's words in a list that holds the book's.
-pub fn list_at<'a>(book: &[u8], words: &'a [u64], i: usize) -> &'a [u64]
-    requires i_bound { (i < sections book.now) × Good book.now }
-    requires words_value { words.now ≡ loaded book.now (sections book.now) ++ drop (length (loaded book.now (sections book.now))) words.now }
-    ensures list { result.now ≡ list_of book.now i }
+pub fn list_at<'a>(book: GoodBook<'_>, words: &'a [u64], i: usize) -> &'a [u64]
+    requires i_bound { i < sections book.bytes.now }
+    requires words_value { words.now ≡ loaded book.bytes.now (sections book.bytes.now)
+        ++ drop (length (loaded book.bytes.now (sections book.bytes.now))) words.now }
+    ensures list { result.now ≡ list_of book.entry.bytes.now i }
 {
     let from = offset(book, i);
     let end = offset(book, i + 1);
@@ -78,15 +79,15 @@ pub fn list_at<'a>(book: &[u8], words: &'a [u64], i: usize) -> &'a [u64]
 }
 
 // A list that holds a book's words: kept, with zeros after them, or zeroed.
-pub fn leave(book: &[u8], words: &mut [u64], kept: bool)
-    requires good { Good book.now }
-    requires words_value { words.old ≡ loaded book.now (sections book.now) ++ drop (length (loaded book.now (sections book.now))) words.old }
-    ensures list { words.new ≡ cond kept (loaded book.now (sections book.now) ++ replicate (length
-        words.old - length (loaded book.now (sections book.now))) 0) (replicate (length words.old) 0) }
+pub fn leave(book: GoodBook<'_>, words: &mut [u64], kept: bool)
+    requires words_value { words.old ≡ loaded book.bytes.now (sections book.bytes.now)
+        ++ drop (length (loaded book.bytes.now (sections book.bytes.now))) words.old }
+    ensures list { words.new ≡ cond kept (loaded book.entry.bytes.now (sections book.entry.bytes.now) ++ replicate (length
+        words.old - length (loaded book.entry.bytes.now (sections book.entry.bytes.now))) 0) (replicate (length words.old) 0) }
 {
     if !kept {
         lists::clear(words);
         return;
     }
-    lists::clear_from(words, offset(book, book::sections(book)));
+    lists::clear_from(words, offset(book, book::sections(book.bytes)));
 }

@@ -1,7 +1,8 @@
 // Books and their sections. Entry i of the contents is section i + 1's.
 #![tactic(auto)]
 
-ghost use Rattle.std.specs.Prelude.{◌≡◌, ◌≤◌, ◌<◌, length};
+ghost use Rattle.std.specs.Prelude.{◌≡◌, ◌≤◌, ◌<◌, length, Err, MatchResult};
+ghost use Rattle.answers.specs.Answer.{Accepted};
 ghost use Rattle.contents.specs.Contents.{is_second, sections, contents};
 ghost use Rattle.book.specs.Book.{end_of, due_at, bad_section, first_bad, book_answer, section_answer, body, section_place, section};
 ghost use Rattle.book.specs.Good.{Good};
@@ -14,6 +15,13 @@ use answers::{Answer, Refusal};
 pub struct Stretch {
     pub start: u64,
     pub length: u64,
+}
+
+// A book of good shape.
+#[derive(Clone, Copy)]
+pub struct GoodBook<'a> {
+    pub bytes: &'a [u8],
+    pub ghost good: { Good bytes.now },
 }
 
 // Whether a book is of the second edition.
@@ -93,6 +101,15 @@ pub fn book_answer(book: &[u8]) -> Answer
     Err(Refusal::BookShape(12))
 }
 
+// A book as one of good shape: 20, by the book's answer.
+pub fn good_book(book: &[u8]) -> Result<GoodBook<'_>, Refusal>
+    ensures answer { MatchResult result (λ good. (good.bytes.now ≡ book.now) × (Accepted ≡ book_answer book.now))
+        (λ refusal. Err refusal ≡ book_answer book.now) }
+{
+    book_answer(book)?;
+    Ok(GoodBook { bytes: book })
+}
+
 // The answer for section 12, which a first edition lacks: 20, by the book's answer, then 24.
 fn twelfth_answer(book: &[u8], shape: Answer) -> Answer
     requires { shape ≡ book_answer book.now }
@@ -123,13 +140,14 @@ pub fn section_answer(book: &[u8], number: u64) -> Answer
 }
 
 // The stretch of section i + 1.
-pub fn body(book: &[u8], i: usize) -> &[u8]
-    requires { (i < sections book.now) × Good book.now }
-    ensures stretch { result.now ≡ body book.now i }
+pub fn body(book: GoodBook<'_>, i: usize) -> &[u8]
+    requires { i < sections book.bytes.now }
+    ensures stretch { result.now ≡ body book.entry.bytes.now i }
 {
-    let start = contents::start_of(book, i) as usize;
-    let end = end_of(book, i) as usize;
-    &book[start..end]
+    let bytes = book.bytes;
+    let start = contents::start_of(bytes, i) as usize;
+    let end = end_of(bytes, i) as usize;
+    &bytes[start..end]
 }
 
 // A section's stretch of the book, empty where section_answer refuses.
@@ -139,7 +157,7 @@ pub fn section(book: &[u8], number: u64) -> &[u8]
     if section_answer(book, number).is_err() {
         return &book[0..0];
     }
-    body(book, number as usize - 1)
+    body(GoodBook { bytes: book }, number as usize - 1)
 }
 
 // Where a section stands in the book, 0 and 0 where section_answer refuses.

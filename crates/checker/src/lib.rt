@@ -1,4 +1,4 @@
-// The operation Check, and the strict check, on either edition: one function with two switches.
+// The operation Check, and the strict check, on either edition: one function with a switch.
 #![tactic(auto)]
 
 ghost use Rattle.std.specs.Prelude.{◌≡◌, ◌≤◌, [], ◌∷◌, length};

@@ -26,23 +26,25 @@ pub fn judge(
     ensures outcome { result_of result (ws0.new ∷ ws1.new ∷ cls.new ∷ ent.new ∷ words.new ∷ [])
         ≡ judge_by strict book.now ws0.old ws1.old cls.old ent.old words.old }
 {
-    let shape = book::book_answer(book);
-    if shape.is_err() {
-        stages::clear_all(ws0, ws1, cls, ent);
-        lists::clear(words);
-        return shape;
-    }
+    let good = match book::good_book(book) {
+        Ok(good) => good,
+        Err(refusal) => {
+            stages::clear_all(ws0, ws1, cls, ent);
+            lists::clear(words);
+            return Err(refusal);
+        }
+    };
     loaded::room_answer(
-        book,
+        good,
         ws0.len(),
         ws1.len(),
         cls.len(),
         ent.len(),
         words.len(),
     )?;
-    bodies::load(book, words);
-    let a = loaded::check_loaded(strict, book, words, ws0, ws1, cls, ent);
-    bodies::leave(book, words, a.is_ok());
+    bodies::load(good, words);
+    let a = loaded::check_loaded(strict, good, words, ws0, ws1, cls, ent);
+    bodies::leave(good, words, a.is_ok());
     a
 }
 

@@ -5,7 +5,6 @@ ghost use Rattle.std.specs.Prelude.{◌≡◌, [], ◌∷◌, ◌++◌, ltb, len
 ghost use Rattle.sorts.specs.Sorts.{edition_given};
 ghost use Rattle.lowering.specs.Asked.{lowering_of};
 ghost use Rattle.contents.specs.Contents.{is_second, sections};
-ghost use Rattle.book.specs.Good.{Good};
 ghost use Rattle.bodies.specs.Words.{loaded};
 ghost use Rattle.answers.specs.Answer.{and_then};
 ghost use Rattle.answers.specs.Result.{result_of};
@@ -14,13 +13,21 @@ ghost use Rattle.lowering.specs.Check.{check_by, refuse, first_refusal, count_an
 ghost use Rattle.loaded.specs.Held.{edition_of, held, book_words};
 
 use answers::{Answer, Refusal};
+use book::GoodBook;
 use lowering::{Asked, Source, Target};
 
 // 15 and 18, with room for some words in each of the five lists.
-pub fn room_answer(book: &[u8], w0: usize, w1: usize, c: usize, e: usize, room: usize) -> Answer
-    requires { Good book.now }
-    ensures answer { result ≡ and_then (first_refusal (count_answers (held book.now).source (held book.now).target w0 w1 c e))
-        (refuse (ltb room (length (book_words book.now))) (WorkShort 5)) }
+pub fn room_answer(
+    book: GoodBook<'_>,
+    w0: usize,
+    w1: usize,
+    c: usize,
+    e: usize,
+    room: usize,
+) -> Answer
+    ensures answer { let b = book.entry.bytes.now in
+        result ≡ and_then (first_refusal (count_answers (held b).source (held b).target w0 w1 c e))
+        (refuse (ltb room (length (book_words b))) (WorkShort 5)) }
 {
     let a = forms::count_answer(
         bodies::word_count(book, 0),
@@ -31,7 +38,7 @@ pub fn room_answer(book: &[u8], w0: usize, w1: usize, c: usize, e: usize, room: 
         e,
     );
     a?;
-    let n = book::sections(book);
+    let n = book::sections(book.bytes);
     if room < bodies::offset(book, n) {
         return Err(Refusal::WorkShort(5));
     }
@@ -39,22 +46,22 @@ pub fn room_answer(book: &[u8], w0: usize, w1: usize, c: usize, e: usize, room: 
 }
 
 // The table that gives arrays their sorts: section 12 of a second edition, none of a first.
-fn sorts_at<'a>(book: &[u8], words: &'a [u64]) -> Option<&'a [u64]>
-    requires good { Good book.now }
-    requires words_value { words.now ≡ loaded book.now (sections book.now) ++ drop (length (loaded book.now (sections book.now))) words.now }
-    ensures table { edition_given result ≡ edition_of book.now }
+fn sorts_at<'a>(book: GoodBook<'_>, words: &'a [u64]) -> Option<&'a [u64]>
+    requires words_value { words.now ≡ loaded book.bytes.now (sections book.bytes.now)
+        ++ drop (length (loaded book.bytes.now (sections book.bytes.now))) words.now }
+    ensures table { edition_given result ≡ edition_of book.entry.bytes.now }
 {
-    if !book::is_second(book) {
+    if !book::is_second(book.bytes) {
         return None;
     }
     Some(bodies::list_at(book, words, 11))
 }
 
 // What Check is asked by a book whose words stand in a list.
-pub fn asked_by<'a>(book: &'a [u8], words: &'a [u64]) -> Asked<'a>
-    requires good { Good book.now }
-    requires words_value { words.now ≡ loaded book.now (sections book.now) ++ drop (length (loaded book.now (sections book.now))) words.now }
-    ensures lists { lowering_of result ≡ held book.now }
+pub fn asked_by<'a>(book: GoodBook<'a>, words: &'a [u64]) -> Asked<'a>
+    requires words_value { words.now ≡ loaded book.bytes.now (sections book.bytes.now)
+        ++ drop (length (loaded book.bytes.now (sections book.bytes.now))) words.now }
+    ensures lists { lowering_of result ≡ held book.entry.bytes.now }
 {
     Asked {
         source: Source {
@@ -79,17 +86,17 @@ pub fn asked_by<'a>(book: &'a [u8], words: &'a [u64]) -> Asked<'a>
 // Either check on the lists of a book whose words stand in a list.
 pub fn check_loaded<'a>(
     strict: bool,
-    book: &'a [u8],
+    book: GoodBook<'a>,
     words: &'a [u64],
     ws0: &mut [u64],
     ws1: &mut [u64],
     cls: &mut [u64],
     ent: &mut [u64],
 ) -> Answer
-    requires good { Good book.now }
-    requires words_value { words.now ≡ loaded book.now (sections book.now) ++ drop (length (loaded book.now (sections book.now))) words.now }
+    requires words_value { words.now ≡ loaded book.bytes.now (sections book.bytes.now)
+        ++ drop (length (loaded book.bytes.now (sections book.bytes.now))) words.now }
     ensures outcome { result_of result (ws0.new ∷ ws1.new ∷ cls.new ∷ ent.new ∷ [])
-        ≡ check_by strict (held book.now) ws0.old ws1.old cls.old ent.old }
+        ≡ check_by strict (held book.entry.bytes.now) ws0.old ws1.old cls.old ent.old }
 {
     checker::check(strict, &asked_by(book, words), ws0, ws1, cls, ent)
 }

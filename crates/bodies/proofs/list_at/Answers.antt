@@ -4,8 +4,8 @@ use Rattle.bodies.proofs.Words.{Part, part}
 use Rattle.bodies.proofs.list_at.Goals as goal
 use Rattle.bodies.proofs.list_at.Goals.{After-offset-end}
 
-part-of : (c : After-offset-end) → Part c.args.book.now c.args.i c.args.words.now c.offset-from.result c.offset-end.result
-part-of c = part c.args.book.now c.args.words.now c.args.i _ _ c.requires.i_bound.0 c.requires.words_value c.offset-from.ensures.count
+part-of : (c : After-offset-end) → Part c.args.book.bytes.now c.args.i c.args.words.now c.offset-from.result c.offset-end.result
+part-of c = part c.args.book.bytes.now c.args.words.now c.args.i _ _ c.requires.i_bound c.requires.words_value c.offset-from.ensures.count
     c.offset-end.ensures.count
 
 pub offset_bounds-words-from : goal.offset_bounds-words-from

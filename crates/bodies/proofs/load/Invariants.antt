@@ -5,4 +5,4 @@ use Rattle.bodies.proofs.Words.{filled}
 use Rattle.bodies.proofs.load.Given as goal
 
 abbrev pub invariant-loop-i : goal.invariant-loop-i
-invariant-loop-i l = record { ends : l.at ≡ length (loaded l.book l.i); stands : l.words ≡ filled l.book l.initial.words l.i }
+invariant-loop-i l = record { ends : l.at ≡ length (loaded l.book.bytes.now l.i); stands : l.words ≡ filled l.book.bytes.now l.initial.words l.i }

@@ -5,17 +5,18 @@ use Rattle.bodies.proofs.load_section.Goals as goal
 
 pub returns-then-is_bits : goal.returns-then-is_bits
 returns-then-is_bits c = record {
-  list = bits-joined c.args.book.now c.args.i c.args.words.now (sym c.is_bits.ensures.test ∙ c.if-is_bits.true);
+  list = bits-joined c.args.book.bytes.now c.args.i c.args.words.now (sym c.is_bits.ensures.test ∙ c.if-is_bits.true);
 }
 
 pub read_words-requires : goal.read_words-requires
 read_words-requires c =
-    words-room c.args.book.now c.args.i c.args.words.now c.requires.i_bound.1 c.requires.i_bound.0 c.requires.i_in_bounds _ c.requires.i_bound.2 _
+    words-room c.args.book.bytes.now c.args.i c.args.words.now c.args.book.good c.requires.i_bound.0 c.requires.i_in_bounds _ c.requires.i_bound.1 _
     c.body.ensures.stretch (sym c.is_bits.ensures.test ∙ c.if-is_bits.false)
 
 pub returns : goal.returns
 returns c = record {
   list =
-      words-joined c.args.book.now c.args.i c.args.words.now c.requires.i_bound.1 c.requires.i_bound.0 c.requires.i_in_bounds _ c.requires.i_bound.2 _
+      let s = c.args in
+      words-joined s.book.bytes.now s.i s.words.now s.book.good c.requires.i_bound.0 c.requires.i_in_bounds _ c.requires.i_bound.1 _
       c.body.ensures.stretch (sym c.is_bits.ensures.test ∙ c.if-is_bits.false) _ c.read_words.ensures.list;
 }

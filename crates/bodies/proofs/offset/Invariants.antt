@@ -4,4 +4,4 @@ use Rattle.bodies.specs.Words.{loaded}
 use Rattle.bodies.proofs.offset.Given as goal
 
 abbrev pub invariant-loop-k : goal.invariant-loop-k
-invariant-loop-k l = l.at ≡ length (loaded l.book l.k)
+invariant-loop-k l = l.at ≡ length (loaded l.book.bytes.now l.k)

@@ -6,6 +6,6 @@ use Rattle.bodies.proofs.word_count.Goals as goal
 pub returns : goal.returns
 returns c = record {
   count =
-      rw c.length_of.ensures.value (sym (words_count c.args.book.now c.requires.1 c.args.i c.requires.0
+      rw c.length_of.ensures.value (sym (words_count c.args.book.bytes.now c.args.book.good c.args.i c.requires
       (sym c.is_bits.ensures.test ∙ c.if-is_bits.false)));
 }

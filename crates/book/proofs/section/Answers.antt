@@ -25,7 +25,7 @@ body-requires c =
     let a = c.args in
     let n =
     numbered a.book.now a.number (rw c.section_answer.ensures.answer at (c.is_err.ensures.negation ∙ ap not c.if-is_err.false)) in
-    (n.high, n.shape)
+    n.high
 
 pub returns : goal.returns
 returns c = record {
