@@ -112,8 +112,9 @@ pub fn same_lent(words: &[u64], k: usize, list: &[u64]) -> bool
 // Whether two lists are lent lists k and k + 1.
 pub fn same_both(words: &[u64], k: usize, a: &[u64], b: &[u64]) -> bool
     requires { k ≤ 2 }
-    ensures equal { result ≡ true → (a.now ≡ expected words.now k) × (b.now ≡ expected
-        words.now (k + 1)) }
+    ensures equal { (result ≡ true → (a.now ≡ expected words.now k) × (b.now ≡ expected
+        words.now (k + 1))) × ((a.now ≡ expected words.now k) × (b.now ≡ expected words.now
+        (k + 1)) → result ≡ true) }
 {
     same_lent(words, k, a) && same_lent(words, k + 1, b)
 }

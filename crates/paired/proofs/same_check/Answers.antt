@@ -13,5 +13,5 @@ pub returns : goal.returns
 returns c = record {
   agreed =
       λ e. same-four c.call_check-a.ensures.outcome (c.same_answer.ensures.equal.0 (c.if-not-same_answer.false))
-      (c.same_both.ensures.equal (c.if-not-same_both.false)) (c.same_both-2.ensures.equal e);
+      (c.same_both.ensures.equal.0 (c.if-not-same_both.false)) (c.same_both-2.ensures.equal.0 e);
 }

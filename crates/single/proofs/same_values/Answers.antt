@@ -12,5 +12,5 @@ returns c = record {
       let a = c.args in
       λ e. values-call a.words.now a.bits.now a.widths.now a.numbers.now c.given-rows.ensures.list c.given.ensures.list
       (same-two c.gilfrunt_values-a.ensures.outcome (c.same_answer.ensures.equal.0 (c.if-not-same_answer.false))
-      (c.same_both.ensures.equal e));
+      (c.same_both.ensures.equal.0 e));
 }
