@@ -6,7 +6,7 @@ use mathlib.Core.Logic.{◌⊎◌, inl, inr}
 use native.Mathlib.Decide.{dec_lt}
 use native.Mathlib.Nat.{not-suc-le-zero}
 use native.Mathlib.Omega.{arith}
-use borrow.Author.Tests.{not-false}
+use borrow.Author.Tests.{not-true, not-false}
 
 pub no_way : {P : Type 0} → true ≡ false → P
 no_way e = let z : ◌≡◌ {A = ℕ} 0 1 = cc in absurd (omega arith)
@@ -40,6 +40,9 @@ cond_same true x = refl
 cond_same false x = refl
 
 -- a test's value, from the test's outcome in code
+pub tested-no : (x y : Bool) → x ≡ y → not x ≡ true → y ≡ false
+tested-no x y e h = sym e ∙ not-true x h
+
 pub tested-yes : (x y : Bool) → x ≡ y → not x ≡ false → y ≡ true
 tested-yes x y e h = sym e ∙ not-false x h
 
