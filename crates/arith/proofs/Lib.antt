@@ -3,3 +3,4 @@ pub mod Sums
 pub mod Highest
 pub mod Fits
 pub mod Parts
+pub mod Halves

@@ -1,5 +1,5 @@
 -- Sign extension by a difference of ones, at every width. Assumes nothing.
-use Rattle.std.proofs.Common.{◌≡◌, ℕ, ◌+◌, ◌-◌, ◌*◌, ◌^◌, ◌≤◌, true, ◌∙◌, add_comm, arith, pow_pos, pow_mono}
+use Rattle.std.proofs.Common.{◌≡◌, ℕ, ◌+◌, ◌-◌, ◌*◌, ◌^◌, ◌≤◌, true, false, ◌∙◌, add_comm, arith, pow_pos, pow_mono}
 use lib.Pow.{high_ones}
 use Rattle.bv.specs.Bv.{negative, sign-extend}
 
@@ -17,3 +17,6 @@ ones_above w n =
 
 pub sign-ones : (w n a : ℕ) → negative w a ≡ true → (2 ^ (w + n) - 1) - (2 ^ w - 1) + a ≡ sign-extend w n a
 sign-ones w n a t = rw (t, ones_above w n)
+
+pub sign-zeros : (w n a : ℕ) → negative w a ≡ false → a ≡ sign-extend w n a
+sign-zeros w n a t = rw t (omega arith)
