@@ -6,7 +6,7 @@ use native.Mathlib.Nat.{mul-mod_left, mul_assoc, div-eq_of_lt, lt_of_lt_of_le, s
 use lib.Dec.{ltb}
 use lib.Pow.{pow-add, pow_mono}
 use borrow.Author.Tests.{ltb-false}
-use Rattle.bv.specs.Bv.{nat2bv, bvshl, bvlshr}
+use Rattle.bv.specs.Bv.{nat2bv, bvnot, bvshl, bvlshr, bvashr, negative}
 
 -- a choice whose two cases have one value
 choose : (t : Bool) (x y z : ℕ) → (t ≡ true → x ≡ z) → (t ≡ false → y ≡ z) → cond t x y ≡ z
@@ -25,3 +25,10 @@ shl-law w a b = choose (ltb b w) _ _ _ (λ t. refl) (λ t. shl-out w a b (ltb-fa
 pub lshr-law : (w a b : ℕ) → a < 2 ^ w → bvlshr w a b ≡ a / 2 ^ b
 lshr-law w a b l =
     choose (ltb b w) _ _ _ (λ t. refl) (λ t. sym (div-eq_of_lt (lt_of_lt_of_le l (pow_mono (ltb-false b w t)))))
+
+-- the two cases of the sign
+pub ashr-negative : (w a b : ℕ) → negative w a ≡ true → bvashr w a b ≡ bvnot w (bvlshr w (bvnot w a) b)
+ashr-negative w a b e = rw e
+
+pub ashr-positive : (w a b : ℕ) → negative w a ≡ false → bvashr w a b ≡ bvlshr w a b
+ashr-positive w a b e = rw e
