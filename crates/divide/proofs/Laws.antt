@@ -1,16 +1,16 @@
 -- Signed division and remainder of words are those of the signed numbers they stand for, at every width. Assumes nothing.
 use Prim.Native.Nat.{ℕ, zero, suc, ◌<◌, ◌-◌, ◌/◌, ◌%◌, ◌^◌}
-use mathlib.Core.Bool.{Bool, true, false, cond}
+use mathlib.Core.Bool.{Bool, true, false, cond, true≢false}
 use mathlib.Core.Path.{◌≡◌, refl, sym, ◌∙◌}
 use native.Mathlib.Omega.{arith}
 use native.Mathlib.Nat.{zero-mod, zero-div, div-zero, mod-zero, div-le_self, mod-le, mod-eq_of_lt}
-use borrow.Author.Tests.{ne_eqb}
-use lib.Dec.{eqb-suc-zero}
+use borrow.Author.Tests.{ne_eqb, eqb-true}
+use lib.Dec.{eqb, eqb-suc-zero}
 use lib.Pow.{pow-lt}
 use lib.IntN.{ℤ, pos, neg_ℤ, nat_abs}
 use lib.Signed.{quot_z, rem_z}
 use Rattle.bv.specs.Bv.{bvneg, bvudiv, bvurem, bvsdiv, bvsrem, negative}
-use Rattle.divide.specs.TwosComplement.{to_int, of_int}
+use Rattle.divide.specs.TwosComplement.{to_int, of_int, overflow}
 use Rattle.bv.proofs.Fits.{neg-fits}
 use Rattle.divide.proofs.Fits.{choose}
 use Rattle.divide.proofs.Signs.{read-sign, neg-sub, back-pos, back-neg, neg-neg}
@@ -115,3 +115,21 @@ same false x = refl
 
 pub srem-zero : (w a : ℕ) → a < 2 ^ w → bvsrem w a 0 ≡ a
 srem-zero w a l = rw (zero-sign, neg-neg w a l) (same (negative w a) a)
+
+-- ---- at width 64, the least number by minus one
+all_true : (s t u : Bool) → cond s (cond t u false) false ≡ true → (s ≡ true) × (t ≡ true) × (u ≡ true)
+all_true true true true e = (refl, refl, refl)
+all_true true true false e = absurd (true≢false (sym e))
+all_true true false u e = absurd (true≢false (sym e))
+all_true false t u e = absurd (true≢false (sym e))
+
+overflow-is : (w a b : ℕ) → overflow w a b ≡ true → (w ≡ 64) × (a ≡ 2 ^ 63) × (b ≡ 2 ^ 64 - 1)
+overflow-is w a b e =
+    let h = all_true (eqb w 64) (eqb a (2 ^ 63)) (eqb b (2 ^ 64 - 1)) e in
+    (eqb-true _ _ h.0, eqb-true _ _ h.1, eqb-true _ _ h.2)
+
+pub sdiv-overflow : (w a b : ℕ) → overflow w a b ≡ true → bvsdiv w a b ≡ a
+sdiv-overflow w a b e = let h = overflow-is w a b e in rw (h.0, h.1, h.2)
+
+pub srem-overflow : (w a b : ℕ) → overflow w a b ≡ true → bvsrem w a b ≡ 0
+srem-overflow w a b e = let h = overflow-is w a b e in rw (h.0, h.1, h.2)

@@ -1,19 +1,19 @@
 -- Signed numbers of a width up to 64 in i64: they fit, and so does every quotient but one. Assumes nothing.
-use Prim.Native.Nat.{ℕ, zero, suc, ◌≤◌, ◌<◌, ◌+◌, ◌-◌, ◌/◌, ◌^◌}
+use Prim.Native.Nat.{ℕ, zero, suc, ◌≤◌, ◌<◌, ◌+◌, ◌-◌, ◌/◌, ◌%◌, ◌^◌}
 use mathlib.Core.Bool.{Bool, true, false, true≢false}
 use mathlib.Core.Path.{◌≡◌, refl, sym, ap, ◌∙◌}
 use mathlib.Core.Logic.{⊎_elim}
 use native.Mathlib.Omega.{arith}
-use native.Mathlib.Nat.{eq-or-lt_of_le, div-le_self, div-one, div-lt_self}
-use borrow.Author.Tests.{eq-eqb, lt-ltb, le-ltb}
+use native.Mathlib.Nat.{eq-or-lt_of_le, zero-add, div-le_self, div-one, div-lt_self}
+use borrow.Author.Tests.{eq-eqb, lt-ltb, le-ltb, ltb-true}
 use lib.Pow.{pow_mono, pow-lt}
-use lib.IntN.{ℤ, pos, negsuc, neg_ℤ, nat_abs}
-use lib.Signed.{non_neg, quot_z, rem_z, mag_rem}
+use lib.IntN.{ℤ, pos, negsuc, neg_ℤ, nat_abs, ◌-ℤ◌}
+use lib.Signed.{mag, lt_z, non_neg, quot_z, rem_z, mag_rem}
 use mir.Syntax.{w64}
 use mir.Val.{SFits, to_z, of_z}
 use mir.ValLaws.{to_z-of_z}
 use Rattle.bv.specs.Bv.{negative}
-use Rattle.divide.specs.TwosComplement.{to_int, overflow}
+use Rattle.divide.specs.TwosComplement.{to_int, of_int, overflow}
 use Rattle.divide.proofs.Signs.{twice, low_of, high-of}
 
 -- ---- i64 alone
@@ -46,8 +46,12 @@ quot_fits (negsuc a) (negsuc (suc b)) f n =
     let h : suc a / suc (suc b) < suc a = div-lt_self (omega arith) (omega arith) in
     record { sfits = omega (arith, f.sfits) }
 
-to_z-low : (x : ℕ) → x < 2 ^ 63 → to_z w64 x ≡ pos x
+pub to_z-low : (x : ℕ) → x < 2 ^ 63 → to_z w64 x ≡ pos x
 to_z-low x h = simp (lt-ltb _ _ h)
+
+neg-one-sub : (n : ℕ) → negsuc zero -ℤ pos n ≡ negsuc n
+neg-one-sub zero = refl
+neg-one-sub (suc n) = rw zero-add
 
 -- ---- reading a word
 abbrev pub Word : ℕ → ℕ → Type 0
@@ -56,10 +60,10 @@ Word w a = (0 < w) × (w ≤ 64) × (a < 2 ^ w)
 half-64 : (w : ℕ) → w ≤ 64 → 2 ^ (w - 1) ≤ 2 ^ 63
 half-64 w h = pow_mono {j = 63} (omega arith)
 
-low-63 : (w a : ℕ) → Word w a → negative w a ≡ false → a < 2 ^ 63
+pub low-63 : (w a : ℕ) → Word w a → negative w a ≡ false → a < 2 ^ 63
 low-63 w a p e = omega (arith, low_of w a p.0 p.2 e, half-64 w p.1)
 
-high-63 : (w a : ℕ) → Word w a → negative w a ≡ true → 2 ^ w - 1 - a < 2 ^ 63
+pub high-63 : (w a : ℕ) → Word w a → negative w a ≡ true → 2 ^ w - 1 - a < 2 ^ 63
 high-63 w a p e = omega (arith, high-of w a p.0 p.2 e, half-64 w p.1, twice w p.0)
 
 read_low : (w a : ℕ) → Word w a → negative w a ≡ false → to_int w a ≡ pos a
@@ -70,7 +74,10 @@ read-high w a p e =
     let s : 2 ^ w - a ≡ suc (2 ^ w - 1 - a) = omega arith in
     simp (le-ltb _ _ (high-of w a p.0 p.2 e), s)
 
--- what the code computes for a word without the top bit
+-- what the code computes for a word with the top bit, and for one without
+pub high-code : (w a : ℕ) → Word w a → negative w a ≡ true → negsuc zero -ℤ to_z w64 (2 ^ w - 1 - a) ≡ to_int w a
+high-code w a p e = rw (to_z-low _ (high-63 w a p e), neg-one-sub) (sym (read-high w a p e))
+
 pub low-code : (w a : ℕ) → Word w a → negative w a ≡ false → to_z w64 a ≡ to_int w a
 low-code w a p e = to_z-low a (low-63 w a p e) ∙ sym (read_low w a p e)
 
@@ -78,8 +85,31 @@ fits_by : (w a : ℕ) (t : Bool) → Word w a → negative w a ≡ t → SFits w
 fits_by w a true p e = rw (read-high w a p e) (record { sfits = high-63 w a p e })
 fits_by w a false p e = rw (read_low w a p e) (record { sfits = low-63 w a p e })
 
-read_fits : (w a : ℕ) → Word w a → SFits w64 (to_int w a)
+pub read_fits : (w a : ℕ) → Word w a → SFits w64 (to_int w a)
 read_fits w a p = fits_by w a (negative w a) p refl
+
+-- ---- putting back
+below : (z : ℤ) → lt_z z (pos 0) ≡ true → negsuc zero -ℤ z ≡ pos (mag z)
+below (pos n) e = absurd (omega (arith, ltb-true n 0 e))
+below (negsuc n) e = simp (le-ltb (suc n) 1 (omega arith)) (ap pos (omega arith))
+
+pub above : (z : ℤ) → lt_z z (pos 0) ≡ false → z ≡ pos (mag z)
+above (pos n) e = refl
+above (negsuc n) e = absurd (true≢false e)
+
+pub back_below : (w : ℕ) (z : ℤ) → lt_z z (pos 0) ≡ true → of_int w z ≡ 2 ^ w - 1 - mag z % 2 ^ w
+back_below w (pos n) e = absurd (omega (arith, ltb-true n 0 e))
+back_below w (negsuc n) e = refl
+
+-- the code's number and its test of sign are those of its bits
+pub code-sign : (z : ℤ) (t : Bool) → SFits w64 z → lt_z (held z) (pos 0) ≡ t → lt_z z (pos 0) ≡ t
+code-sign z t f e = ap (λ (y : ℤ). lt_z y (pos 0)) (sym (to_z-of_z w64 z f)) ∙ e
+
+pub below_code : (z : ℤ) → SFits w64 z → lt_z (held z) (pos 0) ≡ true → negsuc zero -ℤ held z ≡ pos (mag z)
+below_code z f e = rw (to_z-of_z w64 z f) (below z (code-sign z true f e))
+
+pub above-code : (z : ℤ) → SFits w64 z → lt_z (held z) (pos 0) ≡ false → held z ≡ pos (mag z)
+above-code z f e = to_z-of_z w64 z f ∙ above z (code-sign z false f e)
 
 -- ---- dividing
 -- a word that reads as -1 - n
