@@ -35,9 +35,15 @@ const-room l s w k p h n b =
     let m : w - (k - 1) ≤ 64 = omega arith in
     rw (sym (const_step l s w k p h)) (lt_of_lt_of_le f (pow_mono m))
 
--- before the first bit
+-- before the first bit and past the last
 pub const-none : (l : List ℕ) (s w : ℕ) → 0 ≡ const_number l s (w - w)
 unfolding of_bits
 const-none l s w =
     let e : w - w ≡ 0 = omega arith in
     rw e
+
+pub const-all : (l : List ℕ) (s w k : ℕ) → k ≡ 0 → const_number l (s + k) (w - k) ≡ const_number l s w
+const-all l s w k z =
+    let e : s + k ≡ s = omega arith in
+    let d : w - k ≡ w = omega arith in
+    rw (e, d)

@@ -1,2 +1,3 @@
--- The laws of constants that the dispatch rests on. Assumes nothing.
+-- The laws of tags and of constants that the dispatch rests on. Assumes nothing.
+pub mod Tag
 pub mod Constant
