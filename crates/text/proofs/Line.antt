@@ -1,6 +1,8 @@
--- A word at its place, and one more word. Assumes nothing.
-use Rattle.std.proofs.Common.{◌≡◌, ℕ, zero, suc, ◌+◌, ◌-◌, ◌<◌, ◌≤◌, true, false, List, [], ◌∷◌, ◌++◌, length, get_or, take, drop, set}
+-- One more digit, a word at its place, one more word. Assumes nothing.
+use Rattle.std.proofs.Common.{◌≡◌, ℕ, zero, suc, ◌+◌, ◌-◌, ◌*◌, ◌%◌, ◌^◌, ◌<◌, ◌≤◌, true, false, List, [], ◌∷◌, ◌++◌, length, get_or, take, drop, set}
 use Rattle.std.proofs.Common.{nat_lt, ap, sym, refl, ◌∙◌, add-one, add-zero, arith, take-suc-set, le-ltb, lt-ltb, ltb-false, Bool, cond, None, Some}
+use Rattle.std.proofs.Common.{Option, drop_of_length-le, drop-cons}
+use native.Mathlib.Nat.{mod-add-mod}
 use Rattle.std.proofs.Math.Seq.{length-take-le}
 use Rattle.std.proofs.lemmas.List.{get_or-take, get_or-drop}
 use Rattle.std.proofs.lemmas.List.Sums.{prefix_len-le-length}
@@ -19,6 +21,36 @@ digits_found l = go (nat_lt (digits l) (length l)) refl
     go : (t : Bool) → nat_lt (digits l) (length l) ≡ t → unwrap_or (cond t (Some (digits l)) None) (length l) ≡ digits l
     go true e = refl
     go false e = omega (arith, ltb-false _ _ e, digits_within l)
+
+-- a byte that is a digit is not none
+some-digit : (d : Option ℕ) → (d ≡ None → ⊥) → is_none d ≡ false
+some-digit None e = absurd (e refl)
+some-digit (Some x) e = refl
+
+-- Digits from a place on: none left, no digit, one more.
+module _ (l : List ℕ) (at : ℕ) where
+  pub digits-past : length l ≤ at → at + digits (drop at l) ≡ at
+  digits-past h = rw (drop_of_length-le l h) (omega arith)
+
+  pub digits-stop : at < length l → digit_of (get_or l at 0) ≡ None → at + digits (drop at l) ≡ at
+  digits-stop h e = rw (drop-cons l at 0 h, e) (omega arith)
+
+  pub digits_more : at < length l → (digit_of (get_or l at 0) ≡ None → ⊥) → at + digits (drop at l) ≡ at + 1 + digits (drop (at + 1) l)
+  digits_more h e = rw (drop-cons l at 0 h, some-digit (digit_of (get_or l at 0)) e, add-one) (omega arith)
+
+-- Their value.
+pub number-done : (v : ℕ) (l : List ℕ) (at end : ℕ) → end ≤ at → number v (take (end - at) (drop at l)) ≡ v
+number-done v l at end h = let e : end - at ≡ 0 = omega arith in rw e
+
+pub number_more : (v u d : ℕ) (l : List ℕ) (at end : ℕ) → at < end → end ≤ length l → d ≡ unwrap_or (digit_of (get_or l at 0)) 0
+    → u ≡ (v * 2 ^ 4 % 2 ^ 64 + d) % 2 ^ 64
+    → number v (take (end - at) (drop at l)) ≡ number u (take (end - (at + 1)) (drop (at + 1) l))
+number_more v u d l at end h k p q =
+    let e : end - at ≡ suc (end - (at + 1)) = omega arith in
+    let i : at < length l = omega arith in
+    let s : u ≡ (v * 16 + unwrap_or (digit_of (get_or l at 0)) 0) % 2 ^ 64 =
+    q ∙ mod-add-mod (v * 16) (2 ^ 64) d ∙ ap (λ (x : ℕ). (v * 16 + x) % 2 ^ 64) p in
+    rw (e, drop-cons l at 0 i, s, add-one)
 
 -- The word at a place, by the stretch of n digits there.
 module _ (line : List ℕ) (at n : ℕ) (rest : List ℕ) (r : rest ≡ drop at line) (p : n ≡ digits rest) where
