@@ -1,5 +1,5 @@
 -- Two sequences compared place by place: by a loop, as slices, pair by pair. Assumes nothing.
-use Prim.Native.Nat.{ℕ, suc, ◌+◌, ◌-◌, ◌<◌, ◌≤◌}
+use Prim.Native.Nat.{ℕ, suc, ◌+◌, ◌-◌, ◌<◌, ◌≤◌, zero-le}
 use mathlib.Core.Path.{◌≡◌, sym, ap, ◌∙◌}
 use mathlib.Core.Bool.{Bool, true, false, not, cond, ◌&&◌}
 use mathlib.Core.List.{List, [], ◌∷◌}
@@ -24,6 +24,9 @@ use Rattle.lists.proofs.Tests.{agree_at, agree-yes, agree-no}
 module _ (f g : ℕ → ℕ) (n : ℕ) where
   abbrev pub Agreed : ℕ → Type 0
   Agreed j = (j ≤ n) × ((k : ℕ) → k < j → f k ≡ g k)
+
+  pub agreed-none : Agreed 0
+  agreed-none = (zero-le, λ k h. absurd (not-suc-le-zero h))
 
   module _ (j : ℕ) (a : Agreed j) where
     pub agreed-more : j < n → f j ≡ g j → Agreed (j + 1)
