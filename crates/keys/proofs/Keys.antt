@@ -37,6 +37,10 @@ module _ (reads : List ℕ) where
   unfolding same_read
   same-read-at off i k e = rw e
 
+  pub read-self : (k : ℕ) → same_read reads k k ≡ true
+  unfolding same_read all
+  read-self k = rw (eq-eqb (read_array reads k) (read_array reads k) refl, eq-eqb (read_index reads k) (read_index reads k) refl)
+
 -- calls
 module _ (calls cargs ws : List ℕ) where
   pub same-function-at : (p q k l : ℕ) → p ≡ k * 4 → q ≡ l * 4 → functions_agree calls cargs ws p q ≡ same_function calls cargs ws k l
