@@ -7,6 +7,8 @@ use native.Mathlib.Omega.{arith}
 use borrow.Author.Tests.{eqb-true, eqb-false, leb-true, ltb-true}
 use lib.Dec.{eqb}
 use lib.ListN.{length}
+use Rattle.std.specs.Result.{is_ok}
+use Rattle.std.specs.declared.result.Result.{Result}
 use Rattle.std.specs.declared.result.Result.TheVariants.{Ok, Err}
 use Rattle.sorts.specs.Sorts.{Sorts}
 use Rattle.lists.proofs.Choice.{both}
@@ -26,8 +28,29 @@ reads_in σ reads target ws cls n good k h =
     let i : read_index reads k < length ws = ltb-true _ _ (both _ _ e).0 in
     (leb-true _ _ a, omega arith)
 
--- what a walk says: how many roots stand, and which position it gives
+-- the position that a walk gives, whether all roots stand or not
+abbrev pub next_of : Result ℕ ℕ → ℕ
+next_of (Ok next) = next
+next_of (Err at) = at
+
+-- what a walk says: whether all roots stand, how many do, and which position it gives
 module _ (troots : List ℕ) (test : ℕ → Pair → Bool) (from : ℕ) (ps : List Pair) where
+  pub walked-stands : is_ok (walked troots test from ps) ≡ eqb (bad_cong troots test from ps) (length ps)
+  unfolding walked
+  walked-stands = go (eqb (bad_cong troots test from ps) (length ps)) (from + bad_cong troots test from ps)
+    where
+      go : (b : Bool) (next : ℕ) → is_ok (stood b next) ≡ b
+      go true next = refl
+      go false next = refl
+
+  pub walked_next : next_of (walked troots test from ps) ≡ from + bad_cong troots test from ps
+  unfolding walked
+  walked_next = go (eqb (bad_cong troots test from ps) (length ps)) (from + bad_cong troots test from ps)
+    where
+      go : (b : Bool) (next : ℕ) → next_of (stood b next) ≡ next
+      go true next = refl
+      go false next = refl
+
   pub walked-ok : (next : ℕ) → Ok next ≡ walked troots test from ps
       → (bad_cong troots test from ps ≡ length ps) × (next ≡ from + bad_cong troots test from ps)
   unfolding walked
