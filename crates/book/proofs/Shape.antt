@@ -14,8 +14,30 @@ use Rattle.lists.proofs.Choice.{no_way}
 use Rattle.lists.proofs.First.{first-before}
 use Rattle.contents.specs.Contents.{start_of, length_of, is_second, sections, contents, is_bits}
 use Rattle.contents.proofs.Editions.{sections-low, first_of, second-of}
-use Rattle.book.specs.Book.{end_of, due_at, bad_section, first_bad, left_over, book_answer, section_answer, section_place, section}
+use Rattle.book.specs.Book.{end_of, due_at, bad_section, first_bad, left_over, book_answer, section_answer, body, section_place, section}
 use Rattle.book.specs.Good.{Good}
+
+-- the tests of a section one after the other
+module _ (b : List ℕ) (i start due : ℕ) (s : start ≡ start_of b i) (d : due ≡ due_at b i) where
+  pub bad-start : (start ≡ due → ⊥) → true ≡ bad_section b i
+  bad-start n = let m : (start_of b i ≡ due_at b i → ⊥) = λ z. n (s ∙ z ∙ sym d) in rw (ne_eqb _ _ m)
+
+  module _ (e : start ≡ due) (len : ℕ) (l : len ≡ length_of b i) where
+    starts-due : eqb (start_of b i) (due_at b i) ≡ true
+    starts-due = eq-eqb _ _ (sym s ∙ e ∙ d)
+
+    ends_at : (n : ℕ) → ltb n (start + len) ≡ ltb n (end_of b i)
+    ends_at n = rw (s, l)
+
+    pub bad-end : true ≡ ltb (length b) (start + len) → true ≡ bad_section b i
+    bad-end p = rw (starts-due, sym (ends_at (length b)), sym p)
+
+    module _ (p : false ≡ ltb (length b) (start + len)) where
+      pub bits-good : true ≡ is_bits i → false ≡ bad_section b i
+      bits-good t = rw (starts-due, sym (ends_at (length b)), sym p, sym t)
+
+      pub words-good : false ≡ is_bits i → not (eqb (len % 8) 0) ≡ bad_section b i
+      words-good t = rw (starts-due, sym (ends_at (length b)), sym p, sym t, l)
 
 -- a section that is not bad
 pub record Section (b : List ℕ) (i : ℕ) : Type 0 where
@@ -66,6 +88,10 @@ good_book b = go (ltb (length b) (contents b)) refl (ltb (first_bad b) (sections
 -- it has a first word
 pub first_word : (b : List ℕ) → Good b → 8 ≤ length b
 first_word b g = omega (arith, (good_book b g).long, sections-low b)
+
+-- the stretch from a section's start to its end
+pub body_is : (b : List ℕ) (i s e : ℕ) → s ≡ start_of b i → e ≡ end_of b i → take (e - s) (drop s b) ≡ body b i
+body_is b i s e f g = let d : end_of b i - start_of b i ≡ length_of b i = omega arith in rw (f, g, d)
 
 -- the last section's end
 due-end : (b : List ℕ) (n : ℕ) → 1 ≤ n → due_at b n ≡ end_of b (n - 1)
