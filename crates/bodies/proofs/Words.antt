@@ -90,6 +90,10 @@ module _ (bytes old : List ℕ) where
   pub read_more : (out : List ℕ) (j x : ℕ) → out ≡ read j → x ≡ word_at bytes (8 * j) → j < length old → set out j x ≡ read (j + 1)
   read_more out j x e w h = rw (e, w) (build-store (λ (k : ℕ) (before : List ℕ). word_at bytes (8 * k)) old 0 j h)
 
+  pub read_all : (out : List ℕ) (j n : ℕ) → n ≡ length bytes / 8 → j ≤ n → n ≤ j → out ≡ read j
+      → out ≡ words_of_bytes bytes ++ drop (length bytes / 8) old
+  read_all out j n e h l f = let k : j ≡ length bytes / 8 = omega arith in f ∙ ap read k
+
 -- where a section's words stand among all
 module _ (b : List ℕ) where
   pub loaded-none : 0 ≡ length (loaded b 0)
@@ -191,6 +195,13 @@ module _ (b old : List ℕ) where
       let a : take n ws ≡ loaded b i = rw e (take_at (loaded b i) (drop n old) n refl) in
       let d : drop (n + m) ws ≡ drop (n + m) old = rw e (drop-append-add (loaded b i) (drop n old) m ∙ drop-drop m n old) in
       f ∙ rw (a, d, s, length-append) (sym (append_assoc (loaded b i) (list_of b i) (drop (n + m) old)))
+
+  -- what stands after the words is what stood there
+  pub filled-rest : (i : ℕ) (ws : List ℕ) → ws ≡ filled i → ws ≡ loaded b i ++ drop (length (loaded b i)) ws
+  filled-rest i ws e =
+      let r : drop (length (loaded b i)) ws ≡ drop (length (loaded b i)) old =
+      rw e (drop_at (loaded b i) (drop (length (loaded b i)) old) (length (loaded b i)) refl) in
+      e ∙ ap (λ (l : List ℕ). loaded b i ++ l) (sym r)
 
 -- the part of a list where section i + 1's words stand
 pub record Part (b : List ℕ) (i : ℕ) (ws : List ℕ) (from end : ℕ) : Type 0 where
