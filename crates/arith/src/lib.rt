@@ -54,12 +54,12 @@ pub fn bv_extract(i: u64, j: u64, a: u64) -> u64
     bv::low(i - j + 1, a >> j)
 }
 
-// The first operand high (`concat-word` bounds the whole by the widths).
-pub fn bv_concat(a: BitVec, b: BitVec) -> u64
-    requires { (b.width < 64) × (a.number * 2 ^ b.width + b.number < 2 ^ 64) }
-    ensures value { result ≡ concat b.width a.number b.number }
+// The first operand high; the second has width v (`concat-word` bounds the whole by the widths). Of words that fit together: no more is asked.
+pub fn bv_concat(v: u64, a: u64, b: u64) -> u64
+    requires { (v < 64) × (a * 2 ^ v + b < 2 ^ 64) }
+    ensures value { result ≡ concat v a b }
 {
-    (a.number << b.width) + b.number
+    (a << v) + b
 }
 
 // The number stays as it is, whatever is added.

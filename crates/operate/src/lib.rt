@@ -75,7 +75,7 @@ pub fn bin_value(t: u64, a: BitVec, b: BitVec) -> u64
     ensures value { result ≡ op_number t [] (val a.width a.number ∷ val b.width b.number ∷ []) }
 {
     if t == tag::CONCAT {
-        return arith::bv_concat(a, b);
+        return arith::bv_concat(b.width, a.number, b.number);
     }
     even_value(t, a, b)
 }
