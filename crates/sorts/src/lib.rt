@@ -8,6 +8,11 @@ ghost use Rattle.sorts.specs.Good.{Good};
 
 use answers::{Answer, Refusal};
 
+// The widths of every array in a first edition, of its index and of its cells.
+pub const INDEX_WIDTH: u64 = 32;
+
+pub const CELL_WIDTH: u64 = 8;
+
 // The widths of an array's index and of its cells.
 #[derive(Clone, Copy)]
 pub struct Sort {
@@ -16,7 +21,10 @@ pub struct Sort {
 }
 
 // Every array's in a first edition.
-pub const PLAIN: Sort = Sort { index: 32, cell: 8 };
+pub const PLAIN: Sort = Sort {
+    index: INDEX_WIDTH,
+    cell: CELL_WIDTH,
+};
 
 // Entry k's array is above that of the entry before.
 fn rises(table: &[u64], k: usize) -> bool
