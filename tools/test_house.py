@@ -116,6 +116,20 @@ class Table(unittest.TestCase):
         self.assertEqual([(number, name.lower()) for _, _, _, number, name in code],
                          [(number, name.replace("_", "").lower()) for name, number in tags])
 
+    def test_codes(self):
+        """A code makes the same variant in code and in definitions: the variants in the order of their enum."""
+        code = read(os.path.join(CRATES, "rules", "src", "lines.rt"))
+        defined = read(os.path.join(CRATES, "rules", "specs", "Codes.antt"))
+        for kind, letter in [("Operands", "operand"), ("Join", "join"), ("WidthFrom", "source")]:
+            enum = re.search(rf"(?s)pub enum {kind} {{(.*?)\n}}", code).group(1)
+            variants = re.findall(r"(?m)^    (\w+),$", enum)
+            arms = re.findall(rf"(?m)^            (\d+|_) => {kind}::(\w+),$", code)
+            names = re.findall(rf"{letter}\.(\w+)", re.search(rf"(?s)^{letter}s?_of c =(.*?)\n\n", defined + "\n\n", re.M).group(1))
+            last = len(arms) - 1
+            self.assertEqual(arms, [(str(k) if k < last else "_", name) for k, name in enumerate(variants)], kind)
+            listed = variants if kind != "Operands" else variants + variants[-1:]
+            self.assertEqual(names, listed, kind)
+
 
 class Text(unittest.TestCase):
     def test_lines(self):

@@ -1,6 +1,7 @@
 // Operand facts of the 39 tags (02, 2.2), a line a tag; specs/Table has the same lines.
 ghost use Rattle.std.specs.Prelude.{◌≡◌};
-ghost use Rattle.rules.specs.Table.{table};
+ghost use Rattle.rules.specs.Table.{table, line};
+ghost use Rattle.rules.specs.Codes.{operands_of, join_of, source_of};
 
 // How many operands a row has, side lists aside, and where they stand; first the rows that can have a side list.
 #[derive(Clone, Copy, PartialEq, Eq)]
@@ -35,6 +36,8 @@ pub enum Join {
     Chain,
     // Field 4 arguments from field 3 on in the side list are earlier rows.
     Arguments,
+    // No rule: no width passes.
+    Other,
 }
 
 // Where a row's width comes from.
@@ -56,6 +59,8 @@ pub enum WidthFrom {
     Part,
     // The cell width of the array in field 1.
     Cell,
+    // No source: no width.
+    Other,
 }
 
 #[derive(Clone, Copy)]
@@ -63,6 +68,72 @@ pub struct Line {
     pub operands: Operands,
     pub join: Join,
     pub source: WidthFrom,
+}
+
+// The three by their codes, in the order above; any further code of operands is read as three operands.
+impl From<u8> for Operands {
+    ghost from_gives = { λ code r. r ≡ operands_of code };
+
+    fn from(code: u8) -> Operands {
+        match code {
+            0 => Operands::Empty,
+            1 => Operands::Field2,
+            2 => Operands::Field1,
+            3 => Operands::Field3,
+            4 => Operands::Two,
+            _ => Operands::Three,
+        }
+    }
+}
+
+impl From<u8> for Join {
+    ghost from_gives = { λ code r. r ≡ join_of code };
+
+    fn from(code: u8) -> Join {
+        match code {
+            0 => Join::Any,
+            1 => Join::Equal,
+            2 => Join::InBits,
+            3 => Join::OneBit,
+            4 => Join::Part,
+            5 => Join::Choice,
+            6 => Join::Chain,
+            7 => Join::Arguments,
+            _ => Join::Other,
+        }
+    }
+}
+
+impl From<u8> for WidthFrom {
+    ghost from_gives = { λ code r. r ≡ source_of code };
+
+    fn from(code: u8) -> WidthFrom {
+        match code {
+            0 => WidthFrom::One,
+            1 => WidthFrom::First,
+            2 => WidthFrom::Second,
+            3 => WidthFrom::Sum,
+            4 => WidthFrom::Extended,
+            5 => WidthFrom::Field1,
+            6 => WidthFrom::Field2,
+            7 => WidthFrom::Part,
+            8 => WidthFrom::Cell,
+            _ => WidthFrom::Other,
+        }
+    }
+}
+
+impl Line {
+    // A line by its three codes, whatever they are.
+    pub fn from_codes(operands: u8, join: u8, source: u8) -> Line
+        ensures line { result ≡ line (operands_of operands) (join_of join) (source_of source) }
+    {
+        Line {
+            operands: Operands::from(operands),
+            join: Join::from(join),
+            source: WidthFrom::from(source),
+        }
+    }
 }
 
 // A line by the names of its variants.
