@@ -137,7 +137,8 @@ pub fn ext_rows(asked: &Asked, ent: &[u64], cls: &mut [u64]) -> Answer
         (noted cls.old ent.now)) }
 {
     for i in 0..rows::row_count(Graph::Source, asked.source.rows) {
-        ext_step(asked, ent, cls, i)?;
+        let step = ext_step(asked, ent, cls, i);
+        step?;
     }
     Ok(())
 }

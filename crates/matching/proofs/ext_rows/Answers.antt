@@ -27,33 +27,33 @@ loop-i-init c =
     let at = (goal.at.loop-i-init c).Start in
     (refl, rows_start (asked at) (known at), λ j h. absurd (not-suc-le-zero h))
 
-pub ext_step-requires : goal.ext_step-requires
-ext_step-requires c =
+pub ext_step-step-requires : goal.ext_step-step-requires
+ext_step-step-requires c =
     let p = c.requires in record {
       formed = p.formed;
       ent_len = (p.ent_len.0, c.loop-i.invariant.0 ∙ p.ent_len.1);
       i_bound = rw c.row_count-i-end.ensures.count at c.loop-i-test.true;
     }
 
-pub returns-in_err-ext_step : goal.returns-in_err-ext_step
-returns-in_err-ext_step c =
-    let at = (goal.at.returns-in_err-ext_step c).Start in
+pub returns-in_err-step : goal.returns-in_err-step
+returns-in_err-step c =
+    let at = (goal.at.returns-in_err-step c).Start in
     let l = c.loop-i in
-    let e = c.ext_step.ensures in
+    let e = c.ext_step-step.ensures in
     let p =
     rows-stop (asked at) (known at) l.i l.cls l.invariant.2 l.invariant.1 _ _ (rw c.row_count-i-end.ensures.count at c.loop-i-test.true)
-    e.answer e.list (ap refusal c.in_err-ext_step.was) in
+    e.answer e.list (ap refusal c.in_err-step.was) in
     let q = err_from_is_err_and c.from_residual.result c.from_residual.ensures.1 in
-    record { answer = rw (q.1, q.2) (sym c.in_err-ext_step.was ∙ p.0); list = p.1 }
+    record { answer = rw (q.1, q.2) (sym c.in_err-step.was ∙ p.0); list = p.1 }
 
 pub loop-i-preserved : goal.loop-i-preserved
 loop-i-preserved c =
     let at = (goal.at.loop-i-preserved c).Start in
     let l = c.loop-i in
-    let e = c.ext_step.ensures in
+    let e = c.ext_step-step.ensures in
     let more =
     rows_more (asked at) (known at) l.i l.cls l.invariant.2 l.invariant.1 _ _ (rw c.row_count-i-end.ensures.count at c.loop-i-test.true)
-    e.answer e.list (ap refusal c.in_ok-ext_step.was) in
+    e.answer e.list (ap refusal c.in_ok-step.was) in
     (omega arith, more.0, more.1)
 
 pub returns : goal.returns
