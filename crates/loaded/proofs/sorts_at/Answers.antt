@@ -1,4 +1,4 @@
--- Section 12 of a second edition; of a first any list serves. Assumes nothing.
+-- Section 12 of a second edition; none of a first. Assumes nothing.
 use mathlib.Core.Path.{◌≡◌, sym, ◌∙◌}
 use mathlib.Core.Bool.{true}
 use native.Mathlib.Omega.{arith}
