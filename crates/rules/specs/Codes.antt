@@ -1,6 +1,6 @@
 -- The codes by which a line can be given (src/lines.rt). proofs/Codes says what the rules give at each code.
 -- Inner: contracts within the code cite it; no answer's definition does. Assumes nothing.
-use Rattle.std.specs.Prelude.{ℕ, List, [], ◌∷◌, get_or}
+use Rattle.std.specs.Prelude.{ℕ, [], ◌∷◌, get_or}
 use Rattle.rules.specs.declared.lines.Join.{Join}
 use Rattle.rules.specs.declared.lines.Join.TheVariants as join
 use Rattle.rules.specs.declared.lines.Operands.{Operands}

@@ -18,6 +18,7 @@ use Rattle.std.proofs.lemmas.List.Recursion.{is_position_or_len}
 use Rattle.lists.specs.First.{first}
 use Rattle.lists.proofs.First.{first-le}
 use Rattle.rows.specs.Tags.{either}
+use Rattle.lowering.specs.Matching.{dead_entry}
 use Rattle.matching.proofs.dead_entry.Goals as goal
 
 one-more : (n : ℕ) → 1 + n ≡ suc n
@@ -46,5 +47,7 @@ returns c = record {
       let at = position_from_yields_List test c.position-dead.new.self _ c.position-dead.result c.position-dead.ensures.ran
       (YieldsList-from_slice classes cc) (λ x b q k. search (rules, tests)) in
       let bound = first-le (λ j. test (get_or classes j 0)) (length classes) in
-      c.unwrap_or.ensures ∙ ap (λ (o : Option ℕ). unwrap_or o (length classes)) at ∙ rw (sym place) (place-or _ _ bound);
+      let found : c.unwrap_or.result ≡ dead_entry classes (length classes) =
+      c.unwrap_or.ensures ∙ ap (λ (o : Option ℕ). unwrap_or o (length classes)) at ∙ rw (sym place) (place-or _ _ bound) in
+      omega (arith, found);
 }
