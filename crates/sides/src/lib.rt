@@ -21,11 +21,17 @@ pub fn pair_bad(ws: &[u64], side: &[u64], s: usize, l: usize, iw: u64, cw: u64) 
     !has_width(ws, side[at], iw) || !has_width(ws, side[at + 1], cw)
 }
 
+// The pairs of a chain. A `for`: std's `all` takes a branch more at each pair.
 pub fn pairs_wf(ws: &[u64], side: &[u64], s: usize, k: usize, iw: u64, cw: u64) -> bool
     requires { s + 2 * k ≤ length side.now }
     ensures test { result ≡ none (pair_bad iw cw ws.now side.now s) k }
 {
-    (0..k).all(|l| !pair_bad(ws, side, s, l, iw, cw))
+    for l in 0..k {
+        if pair_bad(ws, side, s, l, iw, cw) {
+            return false;
+        }
+    }
+    true
 }
 
 // The k pairs of a Select from s on.
@@ -39,12 +45,17 @@ pub fn chain_wf(ws: &[u64], side: &[u64], s: u64, k: u64, iw: u64, cw: u64) -> b
     s <= m && k <= (m - s) / 2 && pairs_wf(ws, side, s as usize, k as usize, iw, cw)
 }
 
-// The k rows from s on in a side list are below n.
+// The k rows from s on in a side list are below n. By place, as the pairs.
 pub fn list_wf(n: u64, side: &[u64], s: usize, k: usize) -> bool
     requires { s + k ≤ length side.now }
     ensures test { result ≡ none (arg_bad n side.now s) k }
 {
-    side[s..s + k].iter().all(|a| *a < n)
+    for l in 0..k {
+        if n <= side[s + l] {
+            return false;
+        }
+    }
+    true
 }
 
 // The k arguments of a Call from s on.

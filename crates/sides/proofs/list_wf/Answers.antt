@@ -1,23 +1,29 @@
--- Each row of the stretch passes where none is bad. Assumes nothing.
-use Prim.Native.Nat.{◌+◌, ◌-◌}
-use mathlib.Core.Path.{◌≡◌, ◌∙◌}
+-- No row so far is bad: none where the search ends, not none where it stops. Assumes nothing.
+use mathlib.Core.Path.{sym}
+use native.Mathlib.Nat.{not-suc-le-zero}
 use native.Mathlib.Omega.{arith}
-use borrow.Author.Rules.{rules}
-use borrow.Author.Tests.{tests}
-use lib.Dec.{ltb}
-use Rattle.std.proofs.lemmas.Bool.Decides.{nat_tests}
-use Rattle.std.proofs.lemmas.Iterator.{YieldsList-from_slice}
-use Rattle.std.proofs.lemmas.Iterator.Search.{all_from_yields_List}
-use Rattle.lists.proofs.Search.{part-all}
+use borrow.Author.Count.{below_more}
+use borrow.Author.Tests.{le-leb, lt-leb}
+use Rattle.lists.proofs.First.{none-yes, none-no}
 use Rattle.rules.specs.Rule.{arg_bad}
 use Rattle.sides.proofs.list_wf.Goals as goal
+
+pub loop-l-init : goal.loop-l-init
+loop-l-init c = λ j h. absurd (not-suc-le-zero h)
+
+pub returns-then-n-side : goal.returns-then-n-side
+returns-then-n-side c = record {
+  test =
+      let s = c.args in
+      sym (none-no (arg_bad s.n s.side.now s.s) _ _ c.loop-l-test.true (le-leb _ _ c.if-n-side.true) c.loop-l.invariant);
+}
+
+pub loop-l-preserved : goal.loop-l-preserved
+loop-l-preserved c = below_more _ _ c.loop-l.invariant (lt-leb _ _ c.if-n-side.false)
 
 pub returns : goal.returns
 returns c = record {
   test =
       let s = c.args in
-      let long : s.s + s.k - s.s ≡ s.k = omega arith in
-      let stretch = YieldsList-from_slice _ (c.iter.ensures.rest ∙ rw long) in
-      all_from_yields_List (λ a. ltb a s.n) _ _ c.all.result c.all.ensures.ran stretch (λ x b q k. search (rules, tests))
-      ∙ part-all (λ a. ltb a s.n) 0 (arg_bad s.n s.side.now s.s) s.s s.k s.side.now c.requires (λ l h. grind (arith, nat_tests));
+      sym (none-yes (arg_bad s.n s.side.now s.s) _ (λ j h. c.loop-l.invariant j (omega arith)));
 }

@@ -1,21 +1,29 @@
--- The search over the pairs' numbers. Assumes nothing.
-use mathlib.Core.Path.{◌∙◌, refl}
-use mathlib.Core.Bool.{not}
+-- No pair so far is bad: none where the search ends, not none where it stops. Assumes nothing.
+use mathlib.Core.Path.{◌∙◌, sym}
 use native.Mathlib.Omega.{arith}
-use borrow.Author.Rules.{rules}
-use borrow.Author.Tests.{tests}
-use Rattle.std.proofs.lemmas.Iterator.{YieldsList-from_range}
-use Rattle.std.proofs.lemmas.Iterator.Search.{all_from_yields_List}
-use Rattle.lists.proofs.Search.{range-all}
+use native.Mathlib.Nat.{not-suc-le-zero}
+use borrow.Author.Count.{below_more}
+use Rattle.lists.proofs.First.{none-yes, none-no}
 use Rattle.rules.specs.Rule.{pair_bad}
 use Rattle.sides.proofs.pairs_wf.Goals as goal
+
+pub loop-l-init : goal.loop-l-init
+loop-l-init c = λ j h. absurd (not-suc-le-zero h)
+
+pub returns-then-pair_bad : goal.returns-then-pair_bad
+returns-then-pair_bad c = record {
+  test =
+      let s = c.args in
+      sym (none-no (pair_bad s.iw s.cw s.ws.now s.side.now s.s) _ _ c.loop-l-test.true
+      (sym c.pair_bad.ensures.test ∙ c.if-pair_bad.true) c.loop-l.invariant);
+}
+
+pub loop-l-preserved : goal.loop-l-preserved
+loop-l-preserved c = below_more _ _ c.loop-l.invariant (sym c.pair_bad.ensures.test ∙ c.if-pair_bad.false)
 
 pub returns : goal.returns
 returns c = record {
   test =
       let s = c.args in
-      let bad = pair_bad s.iw s.cw s.ws.now s.side.now s.s in
-      let numbers = YieldsList-from_range 0 s.k s.k refl (omega arith) in
-      all_from_yields_List (λ l. not (bad l)) _ _ c.all.result c.all.ensures.ran numbers (λ x b q k. search (rules, tests))
-      ∙ range-all (λ l. not (bad l)) bad s.k (λ l h. refl);
+      sym (none-yes (pair_bad s.iw s.cw s.ws.now s.side.now s.s) _ (λ j h. c.loop-l.invariant j (omega arith)));
 }
