@@ -21,7 +21,7 @@ pub fn pair_bad(ws: &[u64], side: &[u64], s: usize, l: usize, iw: u64, cw: u64) 
     !has_width(ws, side[at], iw) || !has_width(ws, side[at + 1], cw)
 }
 
-// The pairs of a chain. A `for`: std's `all` takes a branch more at each pair.
+// The pairs of a chain. A `for`: std's `all` takes a branch more at each chain.
 pub fn pairs_wf(ws: &[u64], side: &[u64], s: usize, k: usize, iw: u64, cw: u64) -> bool
     requires { s + 2 * k ≤ length side.now }
     ensures test { result ≡ none (pair_bad iw cw ws.now side.now s) k }
